@@ -1,0 +1,97 @@
+//! Well-formed UTF-8, by the rows of Unicode's table 3-7.
+
+use super::table_3_7::{boundaries, rows, ILL_FORMED};
+use super::{utf8_random, Cases, Group};
+use crate::bytes::Hex;
+use std::io;
+
+pub const GROUP: Group =
+    Group { name: "utf8", fixed, sweep, random: utf8_random::random, share: 100 };
+
+/// A checker may go by blocks of 8 or 64 bytes: every place in such blocks.
+const MOST_BEFORE: usize = 70;
+/// ASCII after the string: none, one, and enough for a further block.
+const AFTER: [usize; 4] = [0, 1, 8, 64];
+
+fn fixed(cases: &mut Cases) -> io::Result<()> {
+    cases.add(format_args!("is_utf8 -"))?;
+    for row in rows() {
+        let (low, high): (Vec<u8>, Vec<u8>) = row.iter().copied().unzip();
+        add(cases, &low)?;
+        add(cases, &high)?;
+        // Each byte in turn just outside its range.
+        for place in 0..row.len() {
+            let mut bytes = low.clone();
+            bytes[place] = low[place].wrapping_sub(1);
+            add(cases, &bytes)?;
+            bytes[place] = high[place].wrapping_add(1);
+            add(cases, &bytes)?;
+        }
+        add(cases, &high[..high.len() - 1])?;
+    }
+    for bytes in ILL_FORMED {
+        add(cases, bytes)?;
+    }
+    cases.add(format_args!("is_utf8 =66000:1"))?;
+    cases.add(format_args!("is_utf8 @66000:1"))?;
+    add(cases, &embedded(b"\xE2\x82\xAC", 63, 8))?;
+    add(cases, &embedded(b"\xE2\x82", 62, 0))
+}
+
+fn sweep(cases: &mut Cases) -> io::Result<()> {
+    short_strings(cases)?;
+    for bytes in ILL_FORMED {
+        everywhere(cases, bytes)?;
+    }
+    for row in rows() {
+        for bytes in boundaries(row) {
+            everywhere(cases, &bytes)?;
+        }
+        truncated(cases, row)?;
+    }
+    Ok(())
+}
+
+/// Every string of one and of two bytes.
+fn short_strings(cases: &mut Cases) -> io::Result<()> {
+    for first in 0..=255 {
+        add(cases, &[first])?;
+        for second in 0..=255 {
+            add(cases, &[first, second])?;
+        }
+    }
+    Ok(())
+}
+
+/// Every beginning of a row's lowest and highest character: at the end, before
+/// ASCII and before another such character.
+fn truncated(cases: &mut Cases, row: &[(u8, u8)]) -> io::Result<()> {
+    let (low, high): (Vec<u8>, Vec<u8>) = row.iter().copied().unzip();
+    for whole in [&low, &high] {
+        for end in 1..whole.len() {
+            everywhere(cases, &whole[..end])?;
+            everywhere(cases, &[&whole[..end], &low].concat())?;
+        }
+        everywhere(cases, &[&whole[..], &high].concat())?;
+    }
+    Ok(())
+}
+
+fn everywhere(cases: &mut Cases, bytes: &[u8]) -> io::Result<()> {
+    for before in 0..=MOST_BEFORE {
+        for after in AFTER {
+            add(cases, &embedded(bytes, before, after))?;
+        }
+    }
+    Ok(())
+}
+
+/// `bytes` between ASCII bytes of all kinds, 00 and 7F among them.
+fn embedded(bytes: &[u8], before: usize, after: usize) -> Vec<u8> {
+    let ascii = |n: usize| (0..n).map(|i| (i * 31 % 128) as u8 ^ 0x7F);
+    ascii(before).chain(bytes.iter().copied()).chain(ascii(after)).collect()
+}
+
+fn add(cases: &mut Cases, bytes: &[u8]) -> io::Result<()> {
+    cases.add(format_args!("is_utf8 {}", Hex(bytes)))
+}

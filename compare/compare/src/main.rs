@@ -1,0 +1,5 @@
+use std::process::ExitCode;
+
+fn main() -> ExitCode {
+    ExitCode::from(compare::cli::main(std::env::args_os().skip(1)))
+}

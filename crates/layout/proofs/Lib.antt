@@ -1,0 +1,3 @@
+pub mod Access
+pub mod Images
+pub mod Sizes

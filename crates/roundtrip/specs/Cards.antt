@@ -1,0 +1,52 @@
+-- The bench cards of document 01, as one theorem about the definitions: each is what the definitions compute to.
+--
+--   Cards   == the cards, a field each (card 3 is `card3` and `card3·more`, and so on)
+--   cards   == they hold
+use mathlib.Core.Path.{_≡_, refl}
+use mathlib.Core.List.{List, [], _∷_}
+use Prim.Native.Nat.{ℕ}
+use Rattle.slices.specs.Walk.{walk, walkF}
+use Rattle.slices.specs.Bytes.{be}
+use Rattle.utf8.specs.Utf8.{table, fits, rowLen, firstLen, utf8Step, utf8}
+use Rattle.layout.specs.Lengths.{recordLen, imageLen}
+use Rattle.layout.specs.Container.{container}
+use Rattle.layout.specs.Block.{blockLength, messageHead, message}
+use Rattle.layout.specs.Record.{header, recordHead, recordBytes}
+use Rattle.layout.specs.Payload.{textPayload}
+use Rattle.layout.specs.Image.{imageOf, emptyImage, textImage}
+use Rattle.layout.specs.declared.refusal.Verdict.the-variants.{Fits, Not}
+use Rattle.layout.specs.declared.refusal.Refusal.the-variants.{TooLong, RecordTooLong}
+use Rattle.image.specs.Judge.{verdict, checks}
+use Rattle.image.specs.Builds.{textVerdict, emptyVerdict}
+
+
+pub record Cards : Type 0 where
+  pub card1 : textImage 8184 (0x4D ∷ 0x41 ∷ 0x52 ∷ 0x43 ∷ 0x48 ∷ 0x31 ∷ []) ≡ 0xE2 ∷ 0x40 ∷ 0x00 ∷ 0x01 ∷ 0x00 ∷ 0x00 ∷ 0x03 ∷ 0xFF ∷ 0x03 ∷ 0x0D ∷ 0xD1 ∷ 0x01 ∷ 0x09 ∷ 0x54 ∷ 0x02 ∷ 0x65 ∷ 0x6E ∷ 0x4D ∷ 0x41 ∷ 0x52 ∷ 0x43 ∷ 0x48 ∷ 0x31 ∷ 0xFE ∷ []
+  pub card1·fits : textVerdict 24 8184 (0x4D ∷ 0x41 ∷ 0x52 ∷ 0x43 ∷ 0x48 ∷ 0x31 ∷ []) ≡ Fits
+  pub card1·room : textVerdict 23 8184 (0x4D ∷ 0x41 ∷ 0x52 ∷ 0x43 ∷ 0x48 ∷ 0x31 ∷ []) ≡ Not (TooLong 24 23)
+  pub card2 : emptyImage 8184 ≡ 0xE2 ∷ 0x40 ∷ 0x00 ∷ 0x01 ∷ 0x00 ∷ 0x00 ∷ 0x03 ∷ 0xFF ∷ 0x03 ∷ 0x00 ∷ 0xFE ∷ []
+  pub card2·fits : emptyVerdict 11 8184 ≡ Fits
+  pub card2·room : emptyVerdict 10 8184 ≡ Not (TooLong 11 10)
+  pub card3 : (recordLen 1 250 ≡ 254) × (imageLen 1 250 ≡ 265) × (blockLength 254 ≡ 0xFE ∷ [])
+  pub card3·more : (recordLen 1 251 ≡ 255) × (imageLen 1 251 ≡ 268) × (blockLength 255 ≡ 0xFF ∷ 0x00 ∷ 0xFF ∷ [])
+  pub card4 : (recordLen 1 255 ≡ 259) × (imageLen 1 255 ≡ 272)
+  pub card4·more : (recordLen 1 256 ≡ 263) × (imageLen 1 256 ≡ 276)
+  pub card11 : (recordLen 1 65528 ≡ 65535) × (verdict (checks 65549 8184 1 65528) ≡ Fits)
+  pub card11·more : verdict (checks 65549 8184 1 65529) ≡ Not (RecordTooLong 65536)
+
+pub cards : Cards
+unfolding walk walkF be table fits rowLen firstLen utf8Step utf8 recordLen imageLen container blockLength messageHead message header recordHead recordBytes textPayload imageOf checks
+cards = record {
+  card1 = refl;
+  card1·fits = refl;
+  card1·room = refl;
+  card2 = refl;
+  card2·fits = refl;
+  card2·room = refl;
+  card3 = (refl, refl, refl);
+  card3·more = (refl, refl, refl);
+  card4 = (refl, refl);
+  card4·more = (refl, refl);
+  card11 = (refl, refl);
+  card11·more = refl;
+}

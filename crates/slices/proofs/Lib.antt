@@ -1,0 +1,4 @@
+pub mod Cases
+pub mod Numbers
+pub mod Splice
+pub mod Walks

@@ -1,0 +1,149 @@
+// Well-formed UTF-8, after table 3-7 of the Unicode Standard.
+// The check is one pass: blocks of ASCII bytes and runs of frequent characters are passed at once, each other character by its row.
+ghost use mathlib.Core.Path.{_≡_};
+ghost use mathlib.Core.Bool.{true};
+ghost use Prim.Native.Nat.{_+_, _≤_, _<_};
+ghost use lib.ListN.{length, drop};
+ghost use Rattle.slices.specs.Pick.{pick};
+ghost use Rattle.utf8.specs.Utf8.{_to_, inside, fits, firstLen, utf8};
+ghost use Rattle.utf8.specs.Rest.{rest};
+ghost use Rattle.utf8.specs.Skips.{Skips};
+
+// The byte is one of lo..hi.
+fn inside(b: u8, lo: u8, hi: u8) -> bool
+    ensures { λ r. ⌜ r ≡ inside b (lo to hi) ⌝ }
+{
+    (lo <= b) & (b <= hi)
+}
+
+// `n` where the test holds, else 0.
+fn when(ok: bool, n: usize) -> usize
+    ensures { λ r. ⌜ r ≡ pick ok n 0 ⌝ }
+{
+    if ok {
+        return n;
+    }
+    0
+}
+
+// The later bytes of a character of `n` bytes at `i`: n where the second is one of lo..hi and each after it one of 80..BF, else 0.
+fn rest(s: &[u8], i: usize, n: usize, lo: u8, hi: u8) -> usize
+    requires { ⌜ i < length (now s) ⌝ }
+    requires { ⌜ 2 ≤ n ⌝ }
+    ensures { λ r. ⌜ r ≡ pick (fits (drop (i + 1) (now (s .entry))) (rest n lo hi)) n 0 ⌝ }
+{
+    if s.len() - i < n {
+        return 0;
+    }
+    let mut ok = inside(s[i + 1], lo, hi);
+    let mut k = 2;
+    while k < n {
+        ok = ok & inside(s[i + k], 0x80, 0xBF);
+        k += 1;
+    }
+    when(ok, n)
+}
+
+// How many bytes the character at `i` takes, or 0. A case for each row of the table: its first byte's range, how many bytes it has,
+// and its second byte's range; a byte after that is one of 80..BF in every row. ASCII, the most frequent, is tested by itself.
+fn first_len(s: &[u8], i: usize) -> usize
+    requires { ⌜ i < length (now s) ⌝ }
+    ensures { λ r. ⌜ r ≡ firstLen (drop i (now (s .entry))) ⌝ }
+{
+    let a = s[i];
+    if a <= 0x7F {
+        return 1; // U+0000..U+007F
+    }
+    match a {
+        0xC2..=0xDF => rest(s, i, 2, 0x80, 0xBF), // U+0080..U+07FF
+        0xE0..=0xE0 => rest(s, i, 3, 0xA0, 0xBF), // U+0800..U+0FFF
+        0xE1..=0xEC => rest(s, i, 3, 0x80, 0xBF), // U+1000..U+CFFF
+        0xED..=0xED => rest(s, i, 3, 0x80, 0x9F), // U+D000..U+D7FF
+        0xEE..=0xEF => rest(s, i, 3, 0x80, 0xBF), // U+E000..U+FFFF
+        0xF0..=0xF0 => rest(s, i, 4, 0x90, 0xBF), // U+10000..U+3FFFF
+        0xF1..=0xF3 => rest(s, i, 4, 0x80, 0xBF), // U+40000..U+FFFFF
+        0xF4..=0xF4 => rest(s, i, 4, 0x80, 0x8F), // U+100000..U+10FFFF
+        _ => 0,
+    }
+}
+
+// The `n` bytes from `i` are all ASCII. With a constant `n` this is a load of n bytes and one test.
+fn all_ascii(s: &[u8], i: usize, n: usize) -> bool
+    requires { ⌜ i + n ≤ length (now s) ⌝ }
+    ensures { λ r. ⌜ (r ≡ true → Skips (now (s .entry)) i (i + n)) ⌝ }
+{
+    let mut ok = true;
+    let mut k = 0;
+    while k < n {
+        ok = ok & (s[i + k] < 128);
+        k += 1;
+    }
+    ok
+}
+
+// The `n` bytes from `i` are a frequent piece of text: for 3 a character of the table's fourth row (most of Chinese, Japanese and
+// Korean), for 4 one of the seventh (most emoji), else ASCII alone.
+fn is_piece(s: &[u8], i: usize, n: usize) -> bool
+    requires { ⌜ i + n ≤ length (now s) ⌝ }
+    ensures { λ r. ⌜ (r ≡ true → Skips (now (s .entry)) i (i + n)) ⌝ }
+{
+    if n == 3 {
+        return inside(s[i], 0xE1, 0xEC) & (rest(s, i, 3, 0x80, 0xBF) == 3);
+    }
+    if n == 4 {
+        return inside(s[i], 0xF0, 0xF0) & (rest(s, i, 4, 0x90, 0xBF) == 4);
+    }
+    all_ascii(s, i, n)
+}
+
+// Past the frequent pieces of `n` bytes from `from` on.
+fn past_pieces(s: &[u8], from: usize, n: usize) -> usize
+    requires { ⌜ from ≤ length (now s) ⌝ }
+    requires { ⌜ 0 < n ⌝ }
+    ensures { λ r. ⌜ Skips (now (s .entry)) from r ⌝ }
+{
+    let mut i = from;
+    while n <= s.len() - i {
+        if !is_piece(s, i, n) {
+            return i;
+        }
+        i += n;
+    }
+    i
+}
+
+// After a character of `n` bytes: past its like. Blocks of ASCII are tried at every eighth byte alone, so that single ASCII bytes
+// among others cost little.
+fn past_like(s: &[u8], i: usize, n: usize) -> usize
+    requires { ⌜ i ≤ length (now s) ⌝ }
+    ensures { λ r. ⌜ Skips (now (s .entry)) i r ⌝ }
+{
+    if n == 1 {
+        if i % 8 != 0 {
+            return i;
+        }
+        return past_pieces(s, i, 8);
+    }
+    if n == 3 {
+        return past_pieces(s, i, 3);
+    }
+    if n == 4 {
+        return past_pieces(s, i, 4);
+    }
+    i
+}
+
+// The bytes are well-formed UTF-8: each character fits a row of the table, and the last is whole.
+pub fn is_utf8(s: &[u8]) -> bool
+    ensures { λ r. ⌜ r ≡ utf8 (now (s .entry)) ⌝ }
+{
+    let mut i = past_pieces(s, past_pieces(s, 0, 64), 8);
+    while i < s.len() {
+        let n = first_len(s, i);
+        if n == 0 {
+            return false;
+        }
+        i = past_like(s, i + n, n);
+    }
+    true
+}
