@@ -47,7 +47,12 @@ fn built(line: &[u8], out: &mut [u8], at: usize, b: Built, lent: &[u8]) -> usize
 
 fn begin_mime(line: &[u8], lent: &mut [u8], kind: &mut [u8]) -> Built {
     let k = given(fourth(line), kind);
-    begin::begin_mime(lent, number(third(line)), front(kind, k), number(fifth(line)))
+    begin::begin_mime(
+        lent,
+        number(third(line)),
+        front(kind, k),
+        number(fifth(line)),
+    )
 }
 
 // The calls that leave the payload to the caller, and the one that closes.
@@ -92,7 +97,14 @@ fn mime_image(line: &[u8], lent: &mut [u8], kind: &mut [u8], text: &mut [u8]) ->
 }
 
 // The calls that build a whole image.
-pub fn build(line: &[u8], out: &mut [u8], at: usize, lent: &mut [u8], kind: &mut [u8], text: &mut [u8]) -> usize {
+pub fn build(
+    line: &[u8],
+    out: &mut [u8],
+    at: usize,
+    lent: &mut [u8],
+    kind: &mut [u8],
+    text: &mut [u8],
+) -> usize {
     let name = first(line);
     if check::same(name, b"uri_image") {
         let b = uri_image(line, lent, text);

@@ -3,16 +3,21 @@
 // program, so a number is taken as far as it is digits; a call that is not known is answered by a question mark.
 ghost use Prim.Native.Nat.{_≤_, _<_};
 ghost use lib.ListN.{length};
+
 mod builders;
 mod cases;
 mod given;
+mod reading;
 mod said;
 mod words;
+
+use given::generate;
+use given::given;
 use libc::STDIN_FILENO;
 use libc::STDOUT_FILENO;
-use given::generate;
 use slices::front;
 use words::find;
+use words::first;
 use words::number;
 use words::second;
 
@@ -29,7 +34,14 @@ fn fill(input: &mut [u8], have: usize) -> usize
 }
 
 // A builder's case: its buffer is the first part of `lent`, as long as the case says and filled from that number.
-fn build(line: &[u8], out: &mut [u8], at: usize, lent: &mut [u8], kind: &mut [u8], text: &mut [u8]) -> usize {
+fn build(
+    line: &[u8],
+    out: &mut [u8],
+    at: usize,
+    lent: &mut [u8],
+    kind: &mut [u8],
+    text: &mut [u8],
+) -> usize {
     let room = number(second(line));
     if lent.len() < room {
         return at;
@@ -43,8 +55,24 @@ fn build(line: &[u8], out: &mut [u8], at: usize, lent: &mut [u8], kind: &mut [u8
     builders::build(line, out, at, buffer, kind, text)
 }
 
+// A reader's case: the image is the first part of `text`.
+fn read(line: &[u8], out: &mut [u8], at: usize, text: &mut [u8]) -> usize {
+    if check::same(first(line), b"read") {
+        let n = given(second(line), text);
+        return reading::read(line, out, at, front(text, n));
+    }
+    at
+}
+
 // The answer to one case, at `at`, with its line feed.
-fn answer(line: &[u8], out: &mut [u8], at: usize, lent: &mut [u8], kind: &mut [u8], text: &mut [u8]) -> usize {
+fn answer(
+    line: &[u8],
+    out: &mut [u8],
+    at: usize,
+    lent: &mut [u8],
+    kind: &mut [u8],
+    text: &mut [u8],
+) -> usize {
     let a = cases::length(line, out, at);
     if a != at {
         return said::text(out, a, b"\n");
@@ -56,6 +84,10 @@ fn answer(line: &[u8], out: &mut [u8], at: usize, lent: &mut [u8], kind: &mut [u
     let d = build(line, out, at, lent, kind, text);
     if d != at {
         return said::text(out, d, b"\n");
+    }
+    let e = read(line, out, at, text);
+    if e != at {
+        return said::text(out, e, b"\n");
     }
     said::text(out, at, b"?\n")
 }

@@ -16,7 +16,14 @@ use parts::put_front;
 use slices::copy_to;
 
 // The front of a record whose payload is `head` and `rest_len` bytes more, and `head`.
-fn begin_with(out: &mut [u8], area: usize, format: u8, kind: &[u8], head: &[u8], rest_len: usize) -> Built
+fn begin_with(
+    out: &mut [u8],
+    area: usize,
+    format: u8,
+    kind: &[u8],
+    head: &[u8],
+    rest_len: usize,
+) -> Built
     requires { ⌜ format < 8 ⌝ }
     ensures { λ r. ⌜ r ≡ answer (verdict (checks (length (now (out .entry))) area (length (now (kind .entry))) («rest_len» + length (now (head .entry))))) (front area format (now (kind .entry)) («rest_len» + length (now (head .entry))) ++ now (head .entry)) ⌝ }
     ensures { λ _. ⌜ now (out .exit) ≡ after (verdict (checks (length (now (out .entry))) area (length (now (kind .entry))) («rest_len» + length (now (head .entry))))) (front area format (now (kind .entry)) («rest_len» + length (now (head .entry))) ++ now (head .entry)) (now (out .entry)) ⌝ }

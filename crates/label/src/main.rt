@@ -10,18 +10,34 @@ use slices::front;
 // Why a label is refused, in words. 1 and 4 cannot come up: the type name and the area are fixed.
 fn complain(why: Refusal) {
     match why {
-        Refusal::TypeTooLong => io::write_all(STDERR_FILENO, b"label: refused 1: the type name is too long\n"),
+        Refusal::TypeTooLong => io::write_all(
+            STDERR_FILENO,
+            b"label: refused 1: the type name is too long\n",
+        ),
         Refusal::TooLong { needed, room } => {
-            io::write_all(STDERR_FILENO, b"label: refused 2: the image does not fit; it takes ");
+            io::write_all(
+                STDERR_FILENO,
+                b"label: refused 2: the image does not fit; it takes ",
+            );
             io::print_decimal(STDERR_FILENO, needed as u64);
             io::write_all(STDERR_FILENO, b" bytes, and there is room for ");
             io::print_decimal(STDERR_FILENO, room as u64);
             io::write_all(STDERR_FILENO, b"\n")
         }
-        Refusal::RecordTooLong(_) => io::write_all(STDERR_FILENO, b"label: refused 3: the record is over 65,535 bytes\n"),
-        Refusal::AreaTooBig => io::write_all(STDERR_FILENO, b"label: refused 4: the area is over 524,287 bytes\n"),
-        Refusal::NotUtf8 => io::write_all(STDERR_FILENO, b"label: refused 5: the label is not UTF-8\n"),
-    };
+        Refusal::RecordTooLong(_) => io::write_all(
+            STDERR_FILENO,
+            b"label: refused 3: the record is over 65,535 bytes\n",
+        ),
+        Refusal::AreaTooBig => io::write_all(
+            STDERR_FILENO,
+            b"label: refused 4: the area is over 524,287 bytes\n",
+        ),
+        Refusal::NotUtf8 => io::write_all(
+            STDERR_FILENO,
+            b"label: refused 5: the label is not UTF-8\n",
+        ),
+    }
+    ;
 }
 
 fn show(tile: &[u8], end: usize) {

@@ -76,7 +76,14 @@ pub fn put_front(out: &mut [u8], area: usize, format: u8, kind: &[u8], payload: 
 }
 
 // A whole image: the front, the payload in its two pieces (what its type puts first, and the rest), the terminator.
-pub fn put_image(out: &mut [u8], area: usize, format: u8, kind: &[u8], head: &[u8], rest: &[u8]) -> usize
+pub fn put_image(
+    out: &mut [u8],
+    area: usize,
+    format: u8,
+    kind: &[u8],
+    head: &[u8],
+    rest: &[u8],
+) -> usize
     requires { ⌜ (format < 8) × (length (now kind) ≤ 255) × (imageLen (length (now kind)) (length (now head) + length (now rest)) ≤ length (now out)) ⌝ }
     ensures { λ r. ⌜ Wrote (now (out .entry)) 0 (image area (whole format (now (kind .entry)) (now (head .entry) ++ now (rest .entry)))) (now (out .exit)) r ⌝ }
 {

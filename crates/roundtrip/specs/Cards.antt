@@ -16,9 +16,13 @@ use Rattle.layout.specs.Payload.{textPayload}
 use Rattle.layout.specs.Image.{imageOf, emptyImage, textImage}
 use Rattle.layout.specs.declared.refusal.Verdict.the-variants.{Fits, Not}
 use Rattle.layout.specs.declared.refusal.Refusal.the-variants.{TooLong, RecordTooLong}
+use Rattle.blocks.specs.declared.Message.the-variants.{At, NoContainer, NoMessage, Truncated}
+use Rattle.blocks.specs.Read.{tlvLength, bodyOf, blockOf, messageFrom, containerLen, readOf}
+use Rattle.records.specs.Parse.{headLen, payloadLen, idLen, wholeOf, parseOf}
+use Rattle.walk.specs.Step.{stepOf}
+use Rattle.walk.specs.Walked.{ended, chunked, listing, walkedFrom, walked}
 use Rattle.image.specs.Judge.{verdict, checks}
 use Rattle.image.specs.Builds.{textVerdict, emptyVerdict}
-
 
 pub record Cards : Type 0 where
   pub card1 : textImage 8184 (0x4D ∷ 0x41 ∷ 0x52 ∷ 0x43 ∷ 0x48 ∷ 0x31 ∷ []) ≡ 0xE2 ∷ 0x40 ∷ 0x00 ∷ 0x01 ∷ 0x00 ∷ 0x00 ∷ 0x03 ∷ 0xFF ∷ 0x03 ∷ 0x0D ∷ 0xD1 ∷ 0x01 ∷ 0x09 ∷ 0x54 ∷ 0x02 ∷ 0x65 ∷ 0x6E ∷ 0x4D ∷ 0x41 ∷ 0x52 ∷ 0x43 ∷ 0x48 ∷ 0x31 ∷ 0xFE ∷ []
@@ -31,11 +35,19 @@ pub record Cards : Type 0 where
   pub card3·more : (recordLen 1 251 ≡ 255) × (imageLen 1 251 ≡ 268) × (blockLength 255 ≡ 0xFF ∷ 0x00 ∷ 0xFF ∷ [])
   pub card4 : (recordLen 1 255 ≡ 259) × (imageLen 1 255 ≡ 272)
   pub card4·more : (recordLen 1 256 ≡ 263) × (imageLen 1 256 ≡ 276)
+  pub card5 : (readOf (0xE1 ∷ 0x40 ∷ 0x01 ∷ 0x00 ∷ 0x03 ∷ 0x00 ∷ 0xFE ∷ []) ≡ At 6 0) × (walked (0xE1 ∷ 0x40 ∷ 0x01 ∷ 0x00 ∷ 0x03 ∷ 0x00 ∷ 0xFE ∷ []) 6 6 ≡ listing [] ended)
+  pub card5·long : (readOf (0xE1 ∷ 0x40 ∷ 0x00 ∷ 0x01 ∷ 0x00 ∷ 0x00 ∷ 0x03 ∷ 0xFF ∷ 0x03 ∷ 0x00 ∷ 0xFE ∷ []) ≡ At 10 0) × (walked (0xE1 ∷ 0x40 ∷ 0x00 ∷ 0x01 ∷ 0x00 ∷ 0x00 ∷ 0x03 ∷ 0xFF ∷ 0x03 ∷ 0x00 ∷ 0xFE ∷ []) 10 10 ≡ listing [] ended)
+  pub card6 : readOf (0xE1 ∷ []) ≡ NoContainer
+  pub card6·alone : readOf (0xE2 ∷ 0x40 ∷ 0x00 ∷ 0x01 ∷ 0x00 ∷ 0x00 ∷ 0x03 ∷ 0xFF ∷ []) ≡ NoMessage
+  pub card6·version : readOf (0xE2 ∷ 0x80 ∷ 0x00 ∷ 0x01 ∷ 0x00 ∷ 0x00 ∷ 0x03 ∷ 0xFF ∷ []) ≡ NoContainer
+  pub card7 : readOf (0xE2 ∷ 0x40 ∷ 0x00 ∷ 0x01 ∷ 0x00 ∷ 0x00 ∷ 0x03 ∷ 0xFF ∷ 0x03 ∷ 0x05 ∷ 0x01 ∷ 0x02 ∷ 0x03 ∷ 0x04 ∷ []) ≡ Truncated
+  pub card7·escape : readOf (0xE2 ∷ 0x40 ∷ 0x00 ∷ 0x01 ∷ 0x00 ∷ 0x00 ∷ 0x03 ∷ 0xFF ∷ 0x03 ∷ 0xFF ∷ 0x00 ∷ []) ≡ Truncated
+  pub card8 : (readOf (0xE2 ∷ 0x40 ∷ 0x00 ∷ 0x01 ∷ 0x00 ∷ 0x00 ∷ 0x03 ∷ 0xFF ∷ 0x03 ∷ 0x01 ∷ 0x20 ∷ 0xFE ∷ []) ≡ At 10 1) × (walked (0xE2 ∷ 0x40 ∷ 0x00 ∷ 0x01 ∷ 0x00 ∷ 0x00 ∷ 0x03 ∷ 0xFF ∷ 0x03 ∷ 0x01 ∷ 0x20 ∷ 0xFE ∷ []) 10 11 ≡ listing [] chunked)
   pub card11 : (recordLen 1 65528 ≡ 65535) × (verdict (checks 65549 8184 1 65528) ≡ Fits)
   pub card11·more : verdict (checks 65549 8184 1 65529) ≡ Not (RecordTooLong 65536)
 
 pub cards : Cards
-unfolding walk walkF be table fits rowLen firstLen utf8Step utf8 recordLen imageLen container blockLength messageHead message header recordHead recordBytes textPayload imageOf checks
+unfolding walk walkF be table fits rowLen firstLen utf8Step utf8 recordLen imageLen container blockLength messageHead message header recordHead recordBytes textPayload imageOf checks tlvLength bodyOf blockOf messageFrom containerLen readOf headLen payloadLen idLen wholeOf parseOf stepOf walkedFrom
 cards = record {
   card1 = refl;
   card1·fits = refl;
@@ -47,6 +59,14 @@ cards = record {
   card3·more = (refl, refl, refl);
   card4 = (refl, refl);
   card4·more = (refl, refl);
+  card5 = (refl, refl);
+  card5·long = (refl, refl);
+  card6 = refl;
+  card6·alone = refl;
+  card6·version = refl;
+  card7 = refl;
+  card7·escape = refl;
+  card8 = (refl, refl);
   card11 = (refl, refl);
   card11·more = refl;
 }

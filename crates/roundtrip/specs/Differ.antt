@@ -1,5 +1,6 @@
 -- Two images of one kind are the same only where their payloads are: a label cannot be taken for another.
 --
+--   fronts, rests      == lists in two pieces are equal piece by piece, where the first pieces are equally long
 --   payload-of-image   == equal images of one type have equal payloads
 --   text-of-image      == equal images of texts are of one text
 --   uri-of-image       == equal images of URIs have one prefix and one rest
@@ -58,22 +59,22 @@ same-length k p q e =
 
 -- two lists whose fronts are equally long are equal piece by piece
 module _ (a b x y : List ℕ) (n : length a ≡ length b) (e : a ++ x ≡ b ++ y) where
-  fronts : a ≡ b
+  pub fronts : a ≡ b
   fronts = sym (take-at a x (length a) refl) ∙ ap (take (length a)) e ∙ take-at b y (length a) (sym n)
 
-  rests : x ≡ y
+  pub rests : x ≡ y
   rests = sym (drop-at a x (length a) refl) ∙ ap (drop (length a)) e ∙ drop-at b y (length a) (sym n)
 
 module _ (area format : ℕ) (kind p q : List ℕ) where
   pub payload-of-image : image area (whole format kind p) ≡ image area (whole format kind q) → p ≡ q
   payload-of-image e =
       let n : length p ≡ length q =
-          same-length (length kind) (length p) (length q)
-          (sym (image-length area format kind p) ∙ ap length e ∙ image-length area format kind q) in
+      same-length (length kind) (length p) (length q)
+      (sym (image-length area format kind p) ∙ ap length e ∙ image-length area format kind q) in
       let f : front area format kind (length p) ++ (p ++ terminator) ≡ front area format kind (length q) ++ (q ++ terminator) =
-          sym (image-front format kind p area) ∙ e ∙ image-front format kind q area in
+      sym (image-front format kind p area) ∙ e ∙ image-front format kind q area in
       let g : length (front area format kind (length p)) ≡ length (front area format kind (length q)) =
-          ap (λ (m : ℕ). length (front area format kind m)) n in
+      ap (λ (m : ℕ). length (front area format kind m)) n in
       fronts p q terminator terminator n (rests (front area format kind (length p)) (front area format kind (length q)) (p ++ terminator) (q ++ terminator) g f)
 
 pub text-of-image : (area : ℕ) (t u : List ℕ) → textImage area t ≡ textImage area u → t ≡ u

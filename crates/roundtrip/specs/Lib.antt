@@ -1,3 +1,5 @@
 pub mod Begun
 pub mod Cards
 pub mod Differ
+pub mod Headlines
+pub mod Trip

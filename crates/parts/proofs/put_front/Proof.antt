@@ -16,7 +16,7 @@ put-container-requires : tie.Need-put-container-requires
 put-container-requires c κs = omega (arith, front-pieces (c .before .before .before .args .area) (c .before .before .before .args .format) (now (c .before .before .before .args .kind)) (c .before .before .before .args .payload))
 
 record-len-requires : tie.Need-record-len-requires
-record-len-requires c κs = 
+record-len-requires c κs =
     let a = c .before .before .before .before .before .before .before .args in
     let k = length (now (a .kind)) in
     omega (arith, front-length (a .area) (a .format) (now (a .kind)) (a .payload), image-is k (a .payload), c .before .before .before .before .before .before .before .pre .2)
@@ -28,7 +28,7 @@ cast-put-record-head : tie.Need-cast-put-record-head
 cast-put-record-head c = search needs
 
 put-record-head-requires : tie.Need-put-record-head-requires
-put-record-head-requires c κs = 
+put-record-head-requires c κs =
     let e = ap (λ (n : ℕ). length (messageHead n)) (c .before .before .before .before .record-len .ensures) in
     (c .before .before .before .before .before .before .before .before .before .before .before .before .pre .0, omega (arith, front-pieces (c .before .before .before .before .before .before .before .before .before .before .before .before .args .area) (c .before .before .before .before .before .before .before .before .before .before .before .before .args .format) (now (c .before .before .before .before .before .before .before .before .before .before .before .before .args .kind)) (c .before .before .before .before .before .before .before .before .before .before .before .before .args .payload), container-length (c .before .before .before .before .before .before .before .before .before .before .before .before .args .area), c .before .before .before .before .before .before .before .before .put-container, c .before .before .before .put-message-head, c .before .before .before .before .before .before .before .before .before .before .before .before .pre .3))
 

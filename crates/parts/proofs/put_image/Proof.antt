@@ -10,31 +10,31 @@ use Rattle.parts.proofs.Pieces.{pieces}
 use native.Mathlib.Omega.{arith}
 
 add-put-front : tie.Need-add-put-front
-add-put-front c = 
+add-put-front c =
     let a = c .before .before .before .before .before .args in
     let f = front-length (a .area) (a .format) (now (a .kind)) (length (now (a .head)) + length (now (a .rest))) in
     omega arith
 
 put-front-requires : tie.Need-put-front-requires
-put-front-requires c κs = 
+put-front-requires c κs =
     let a = c .before .before .before .before .before .args in
     let f = front-length (a .area) (a .format) (now (a .kind)) (length (now (a .head)) + length (now (a .rest))) in
     (c .before .before .before .before .before .pre .0, c .before .before .before .before .before .pre .1, omega arith, omega arith)
 
 copy-to-requires : tie.Need-copy-to-requires
-copy-to-requires c κs = 
+copy-to-requires c κs =
     let a = c .before .before .before .before .before .before .before .before .before .args in
     let f = front-length (a .area) (a .format) (now (a .kind)) (length (now (a .head)) + length (now (a .rest))) in
     omega (arith, c .before .before .before .put-front, c .before .before .before .before .before .before .before .before .before .pre .2)
 
 copy-to-requires-2 : tie.Need-copy-to-requires-2
-copy-to-requires-2 c κs = 
+copy-to-requires-2 c κs =
     let a = c .before .before .before .before .before .before .before .before .before .before .before .before .before .args in
     let f = front-length (a .area) (a .format) (now (a .kind)) (length (now (a .head)) + length (now (a .rest))) in
     omega (arith, c .before .before .before .before .before .before .before .put-front, c .before .before .before .copy-to, c .before .before .before .before .before .before .before .before .before .before .before .before .before .pre .2)
 
 put-requires : tie.Need-put-requires
-put-requires c κs = 
+put-requires c κs =
     let a = c .before .before .before .before .before .before .before .before .before .before .before .before .before .before .before .before .before .args in
     let f = front-length (a .area) (a .format) (now (a .kind)) (length (now (a .head)) + length (now (a .rest))) in
     omega (arith, c .before .before .before .before .before .before .before .before .before .before .before .put-front, c .before .before .before .before .before .before .before .copy-to, c .before .before .before .copy-to2, c .before .before .before .before .before .before .before .before .before .before .before .before .before .before .before .before .before .pre .2)
@@ -43,7 +43,7 @@ same-length : tie.Need-same-length
 same-length c = search needs
 
 returns : tie.Need-returns
-returns c = 
+returns c =
     let a = c .before .before .before .before .before .before .before .before .before .before .before .before .before .before .before .before .before .before .before .before .args in
     let f = front-length (a .area) (a .format) (now (a .kind)) (length (now (a .head)) + length (now (a .rest))) in
     rw (← pieces (a .area) (a .format) (now (a .kind)) (now (a .head)) (now (a .rest)))

@@ -21,7 +21,7 @@ same-length : tie.Need-same-length
 same-length c = search needs
 
 returns : tie.Need-returns
-returns c = 
+returns c =
     let h = ap length (message-short (c .before .before .before .before .before .before .before .before .before .before .args .n) (c .before .before .before .before .before .before .before .before .if1 .taken)) in
     rw (message-short (c .before .before .before .before .before .before .before .before .before .before .args .n) (c .before .before .before .before .before .before .before .before .if1 .taken)) (chain (omega arith) (c .before .before .before .before .before .before .put .ensures) (c .before .before .put2 .ensures))
 

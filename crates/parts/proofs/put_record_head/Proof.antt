@@ -27,7 +27,7 @@ same-length : tie.Need-same-length
 same-length c = search needs
 
 returns : tie.Need-returns
-returns c = 
+returns c =
     let e = record-short (c .before .before .before .before .before .before .before .before .before .before .before .before .before .before .args .format) (c .before .before .before .before .before .before .before .before .before .before .before .before .before .before .args .kind-len) (c .before .before .before .before .before .before .before .before .before .before .before .before .before .before .args .payload) (c .before .before .before .before .before .before .before .before .before .before .before .before .if1 .taken) in
     let h = ap length e in
     rw e (chain (omega arith) (chain (omega arith) (c .before .before .before .before .before .before .before .before .before .before .put .ensures) (c .before .before .before .before .before .before .put2 .ensures)) (c .before .before .put3 .ensures))

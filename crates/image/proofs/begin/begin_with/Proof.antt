@@ -38,21 +38,21 @@ enum-told : tie.Need-enum-told
 enum-told c = search needs
 
 put-front-requires : tie.Need-put-front-requires
-put-front-requires c κs = 
+put-front-requires c κs =
     let a = c .before .before .before .before .before .before .before .before .args in
     let f = room-of (length (now (a .out))) (a .area) (length (now (a .kind))) (c .before .before .before .before .sat-add .result) (sym (c .before .before .before .judge .ensures) ∙ c .before .enum-told .given .1) in
     let n = front-length (a .area) (a .format) (now (a .kind)) (c .before .before .before .before .sat-add .result) in
     (c .before .before .before .before .before .before .before .before .pre, f .kind, omega arith, omega arith)
 
 copy-to-requires : tie.Need-copy-to-requires
-copy-to-requires c κs = 
+copy-to-requires c κs =
     let a = c .before .before .before .before .before .before .before .before .before .before .before .before .args in
     let f = room-of (length (now (a .out))) (a .area) (length (now (a .kind))) (c .before .before .before .before .before .before .before .before .sat-add .result) (sym (c .before .before .before .before .before .before .before .judge .ensures) ∙ c .before .before .before .before .before .enum-told .given .1) in
     let n = front-length (a .area) (a .format) (now (a .kind)) (c .before .before .before .before .before .before .before .before .sat-add .result) in
     omega (arith, c .before .before .before .put-front, c .before .before .before .before .before .before .before .before .sat-add .ensures)
 
 returns : tie.Need-returns
-returns c = 
+returns c =
     let a = c .before .before .before .before .before .before .before .before .args in
     refused _ (front (a .area) (a .format) (now (a .kind)) (a .rest-len + length (now (a .head))) ++ now (a .head)) (exact (c .before .before .before .before .before .before .before .before) (c .before .before .before .before .sat-add .ensures) (c .before .before .before .judge .ensures) ∙ c .before .why .given .1)
 
@@ -60,7 +60,7 @@ same-length : tie.Need-same-length
 same-length c = search needs
 
 returns-2 : tie.Need-returns-2
-returns-2 c = 
+returns-2 c =
     let a = c .before .before .before .before .before .before .before .before .before .before .before .before .before .before .before .args in
     let f = room-of (length (now (a .out))) (a .area) (length (now (a .kind))) (c .before .before .before .before .before .before .before .before .before .before .before .sat-add .result) (sym (c .before .before .before .before .before .before .before .before .before .before .judge .ensures) ∙ c .before .before .before .before .before .before .before .before .enum-told .given .1) in
     let n = front-length (a .area) (a .format) (now (a .kind)) (c .before .before .before .before .before .before .before .before .before .before .before .sat-add .result) in

@@ -25,7 +25,7 @@ returns-2 c = let a = c .before .before .before .args in
     simp (le-ltb _ _ (c .before .before .if1 .left), lt-ltb _ _ h) (ap (λ (n : ℕ). Not (TooLong n (a .room))) (c .before .image-len-for .ensures))
 
 record-len-requires : tie.Need-record-len-requires
-record-len-requires c κs = 
+record-len-requires c κs =
     let h = image-is (c .before .before .before .args .kind-len) (c .before .before .before .args .payload) in
     omega arith
 

@@ -18,13 +18,13 @@ use Rattle.image.proofs.Judged.{finished, refused}
 use native.Mathlib.Omega.{arith}
 
 returns : tie.Need-returns
-returns c = 
+returns c =
     let a = c .before .before .args in
     let v : emptyVerdict (length (now (a .out))) (a .area) ≡ Not (TooLong 11 (length (now (a .out)))) = simp (lt-ltb _ _ (c .if1 .taken)) in
     refused _ (emptyImage (a .area)) v
 
 returns-2 : tie.Need-returns-2
-returns-2 c = 
+returns-2 c =
     let a = c .before .before .before .args in
     let v : emptyVerdict (length (now (a .out))) (a .area) ≡ Not AreaTooBig = simp (le-ltb _ _ (c .before .if1 .left), lt-ltb _ _ (c .if2 .taken)) in
     refused _ (emptyImage (a .area)) v

@@ -24,7 +24,7 @@ slice-aggregate-put-image : tie.Need-slice-aggregate-put-image
 slice-aggregate-put-image c = search needs
 
 put-image-requires : tie.Need-put-image-requires
-put-image-requires c κs = 
+put-image-requires c κs =
     let a = c .before .before .before .before .before .before .before .before .args in
     let f = room-of (length (now (a .out))) (a .area) (length (now (a .mime))) (length (now (a .payload))) (sym (c .before .before .before .before .judge .ensures) ∙ c .before .before .enum-told .given .1) in
     let z = ap (λ (n : ℕ). imageLen (length (now (a .mime))) n) (zero-add (length (now (a .payload)))) in

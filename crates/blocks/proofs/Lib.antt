@@ -1,0 +1,5 @@
+pub mod Blocks
+pub mod Complete
+pub mod Containers
+pub mod Exactly
+pub mod Sound

@@ -1,0 +1,42 @@
+use borrow.Author.Needs.{needs}
+use Rattle.blocks.proofs.container_len.Statement.{statement}
+use Rattle.blocks.proofs.container_len.Tie as tie
+use borrow.Author.Tests.{eq-eqb, ne-eqb, lt-ltb, le-ltb}
+use Rattle.blocks.specs.Read.{containerLen}
+
+returns : tie.Need-returns
+unfolding containerLen
+returns c = simp (lt-ltb _ _ (c .if1 .taken))
+
+shared-slice-read-magic : tie.Need-shared-slice-read-magic
+shared-slice-read-magic c = search needs
+
+shared-slice-read-e1-len : tie.Need-shared-slice-read-e1-len
+shared-slice-read-e1-len c = search needs
+
+e1-len-requires : tie.Need-e1-len-requires
+e1-len-requires c κs = search needs
+
+returns-2 : tie.Need-returns-2
+unfolding containerLen
+returns-2 c = simp (le-ltb _ _ (c .before .before .before .before .if1 .left), eq-eqb _ _ (c .before .before .if2 .taken)) (c .e1-len .ensures)
+
+returns-3 : tie.Need-returns-3
+unfolding containerLen
+returns-3 c = simp (le-ltb _ _ (c .before .before .before .if1 .left), ne-eqb _ _ (c .before .if2 .left), eq-eqb _ _ (c .if3 .taken))
+
+returns-4 : tie.Need-returns-4
+unfolding containerLen
+returns-4 c = simp (le-ltb _ _ (c .before .before .before .if1 .left), ne-eqb _ _ (c .before .if2 .left), ne-eqb _ _ (c .if3 .left))
+
+pub container-len-spec : {M : Type 1} → statement M
+container-len-spec =
+    tie.close
+    (tie.spec
+    returns
+    shared-slice-read-magic
+    shared-slice-read-e1-len
+    e1-len-requires
+    returns-2
+    returns-3
+    returns-4)

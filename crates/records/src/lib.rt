@@ -1,0 +1,198 @@
+// One record of a message: where its parts stand, and the parts themselves.
+ghost use mathlib.Core.Path.{_≡_};
+ghost use Prim.Native.Nat.{_+_, _≤_, _<_, _^_};
+ghost use lib.ListN.{length, getD};
+ghost use Rattle.layout.specs.Lengths.{sat};
+ghost use Rattle.records.specs.Parse.{headLen, payloadLen, idLen, wholeOf, parseOf, numberOf};
+ghost use Rattle.records.specs.Parts.{partOf, kindOf, idOf, payloadOf, isOf};
+
+// A record by its places: the type name stands at `kind`, the id right after it, then the payload.
+pub struct Record {
+    pub format: u8,
+    pub last: bool,
+    pub kind: usize,
+    pub kind_len: usize,
+    pub id_len: usize,
+    pub payload_len: usize,
+}
+
+// What stands at the front of a message's bytes.
+pub enum Parsed {
+    Record(Record),
+    // 13: a length or a part is not all there.
+    Truncated,
+    // 14: a record split across several.
+    Chunked,
+}
+
+// Document 01's number: 0 for a record.
+pub fn number(p: Parsed) -> u8
+    ensures { λ r. ⌜ r ≡ numberOf p ⌝ }
+{
+    match p {
+        Parsed::Record(_) => 0,
+        Parsed::Truncated => 13,
+        Parsed::Chunked => 14,
+    }
+}
+
+// A byte as a number.
+fn wide(x: u8) -> usize
+    ensures { λ r. ⌜ r ≡ x ⌝ }
+    ensures { λ r. ⌜ r < 256 ⌝ }
+{
+    x as usize
+}
+
+// Bytes before the type name, by the header.
+fn head_len(h: u8) -> usize
+    ensures { λ r. ⌜ r ≡ headLen h ⌝ }
+    ensures { λ r. ⌜ r ≤ 7 ⌝ }
+{
+    if h / 16 % 2 == 1 {
+        if h / 8 % 2 == 1 {
+            return 4;
+        }
+        return 3;
+    }
+    if h / 8 % 2 == 1 {
+        return 7;
+    }
+    6
+}
+
+// The payload's length: one byte, or four, high byte first.
+fn payload_len(s: &[u8], h: u8) -> usize
+    requires { ⌜ (h ≡ getD (now s) 0 0) × (headLen h ≤ length (now s)) ⌝ }
+    ensures { λ r. ⌜ r ≡ payloadLen (now (s .entry)) ⌝ }
+    ensures { λ r. ⌜ r < 2 ^ 32 ⌝ }
+{
+    if h / 16 % 2 == 1 {
+        return wide(s[2]);
+    }
+    ((wide(s[2]) * 256 + wide(s[3])) * 256 + wide(s[4])) * 256 + wide(s[5])
+}
+
+// The id's length, after the payload's; 0 where the header announces no id.
+fn id_len(s: &[u8], h: u8) -> usize
+    requires { ⌜ (h ≡ getD (now s) 0 0) × (headLen h ≤ length (now s)) ⌝ }
+    ensures { λ r. ⌜ r ≡ idLen (now (s .entry)) ⌝ }
+    ensures { λ r. ⌜ r < 256 ⌝ }
+{
+    if h / 8 % 2 == 1 {
+        if h / 16 % 2 == 1 {
+            return wide(s[3]);
+        }
+        return wide(s[6]);
+    }
+    0
+}
+
+// The record, once its lengths are known: 13 where its parts run past the bytes.
+fn whole(s: &[u8], h: u8, kind: usize, id_len: usize, payload_len: usize) -> Parsed
+    requires { ⌜ (1 < length (now s)) × ((kind ≤ 7) × ((«id_len» < 256) × («payload_len» < 2 ^ 32))) ⌝ }
+    ensures { λ r. ⌜ r ≡ wholeOf (now (s .entry)) h kind «id_len» «payload_len» ⌝ }
+{
+    let kind_len = wide(s[1]);
+    if s.len() < kind + kind_len + id_len + payload_len {
+        return Parsed::Truncated;
+    }
+    Parsed::Record(Record {
+        format: h % 8,
+        last: h / 64 % 2 == 1,
+        kind,
+        kind_len,
+        id_len,
+        payload_len,
+    })
+}
+
+// The record at the front of `bytes`. Most are short and have no id: they take the first way.
+pub fn parse_record(bytes: &[u8]) -> Parsed
+    ensures { λ r. ⌜ r ≡ parseOf (now (bytes .entry)) ⌝ }
+{
+    if bytes.len() == 0 {
+        return Parsed::Truncated;
+    }
+    let h = bytes[0];
+    if h / 32 % 2 == 1 {
+        return Parsed::Chunked;
+    }
+    if bytes.len() < 3 {
+        return Parsed::Truncated;
+    }
+    if h / 8 % 4 == 2 {
+        return whole(bytes, h, 3, 0, wide(bytes[2]));
+    }
+    let kind = head_len(h);
+    if bytes.len() < kind {
+        return Parsed::Truncated;
+    }
+    let id = id_len(bytes, h);
+    let payload = payload_len(bytes, h);
+    whole(bytes, h, kind, id, payload)
+}
+
+// The `len` bytes at `at`, if they are all there; else none, never fewer.
+pub fn part(image: &[u8], at: usize, len: usize) -> &[u8]
+    ensures { λ r. ⌜ now r ≡ partOf (now (image .entry)) at len ⌝ }
+{
+    if image.len() < at {
+        return &image[0..0];
+    }
+    if image.len() - at < len {
+        return &image[0..0];
+    }
+    &image[at..at + len]
+}
+
+// The place `len` bytes after `at`. A place past 64 bits is outside every image, and so is the largest.
+fn after(at: usize, len: usize) -> usize
+    ensures { λ r. ⌜ r ≡ sat (at + len) ⌝ }
+{
+    let room = 0xffff_ffff_ffff_ffff - at;
+    if len <= room {
+        at + len
+    } else {
+        0xffff_ffff_ffff_ffff
+    }
+}
+
+// A record's type name.
+pub fn kind(image: &[u8], r: Record) -> &[u8]
+    ensures { λ p. ⌜ now p ≡ kindOf (now (image .entry)) r ⌝ }
+{
+    part(image, r.kind, r.kind_len)
+}
+
+// Its id, usually empty.
+pub fn id(image: &[u8], r: Record) -> &[u8]
+    ensures { λ p. ⌜ now p ≡ idOf (now (image .entry)) r ⌝ }
+{
+    part(image, after(r.kind, r.kind_len), r.id_len)
+}
+
+// Its payload, as written.
+pub fn payload(image: &[u8], r: Record) -> &[u8]
+    ensures { λ p. ⌜ now p ≡ payloadOf (now (image .entry)) r ⌝ }
+{
+    part(
+        image,
+        after(after(r.kind, r.kind_len), r.id_len),
+        r.payload_len,
+    )
+}
+
+// Whether a record is of the well-known type whose name is the one byte `name`.
+pub fn is(image: &[u8], r: Record, name: u8) -> bool
+    ensures { λ b. ⌜ b ≡ isOf (now (image .entry)) r name ⌝ }
+{
+    if r.format == 1 {
+        let k = kind(image, r);
+        if k.len() == 1 {
+            return k[0] == name;
+        }
+        return false;
+    }
+    false
+}
