@@ -7,9 +7,7 @@ use crate::words::first;
 use crate::words::fourth;
 use crate::words::number;
 use crate::words::third;
-use image::begin;
-use image::judge::Built;
-use image::whole;
+use judging::Built;
 use layout::refusal::Refusal;
 use slices::front;
 
@@ -47,7 +45,7 @@ fn built(line: &[u8], out: &mut [u8], at: usize, b: Built, lent: &[u8]) -> usize
 
 fn begin_mime(line: &[u8], lent: &mut [u8], kind: &mut [u8]) -> Built {
     let k = given(fourth(line), kind);
-    begin::begin_mime(
+    begins::begin_mime(
         lent,
         number(third(line)),
         front(kind, k),
@@ -61,11 +59,11 @@ pub fn open(line: &[u8], out: &mut [u8], at: usize, lent: &mut [u8], kind: &mut 
     let area = number(third(line));
     let n = number(fourth(line));
     if check::same(name, b"begin") {
-        let b = begin::begin(lent, area, n, (number(fifth(line)) % 256) as u8);
+        let b = begins::begin(lent, area, n, (number(fifth(line)) % 256) as u8);
         return built(line, out, at, b, lent);
     }
     if check::same(name, b"begin_text") {
-        let b = begin::begin_text(lent, area, n);
+        let b = begins::begin_text(lent, area, n);
         return built(line, out, at, b, lent);
     }
     if check::same(name, b"begin_mime") {
@@ -73,7 +71,7 @@ pub fn open(line: &[u8], out: &mut [u8], at: usize, lent: &mut [u8], kind: &mut 
         return built(line, out, at, b, lent);
     }
     if check::same(name, b"finish") {
-        let b = begin::finish(lent, area);
+        let b = begins::finish(lent, area);
         return built(line, out, at, b, lent);
     }
     at
@@ -82,18 +80,18 @@ pub fn open(line: &[u8], out: &mut [u8], at: usize, lent: &mut [u8], kind: &mut 
 fn uri_image(line: &[u8], lent: &mut [u8], text: &mut [u8]) -> Built {
     let n = given(fifth(line), text);
     let prefix = (number(fourth(line)) % 256) as u8;
-    whole::uri_image(lent, number(third(line)), front(text, n), prefix)
+    image::uri_image(lent, number(third(line)), front(text, n), prefix)
 }
 
 fn text_image(line: &[u8], lent: &mut [u8], text: &mut [u8]) -> Built {
     let n = given(fourth(line), text);
-    whole::text_image(lent, number(third(line)), front(text, n))
+    image::text_image(lent, number(third(line)), front(text, n))
 }
 
 fn mime_image(line: &[u8], lent: &mut [u8], kind: &mut [u8], text: &mut [u8]) -> Built {
     let k = given(fourth(line), kind);
     let n = given(fifth(line), text);
-    whole::mime_image(lent, number(third(line)), front(kind, k), front(text, n))
+    image::mime_image(lent, number(third(line)), front(kind, k), front(text, n))
 }
 
 // The calls that build a whole image.
@@ -119,7 +117,7 @@ pub fn build(
         return built(line, out, at, b, lent);
     }
     if check::same(name, b"empty_image") {
-        let b = whole::empty_image(lent, number(third(line)));
+        let b = image::empty_image(lent, number(third(line)));
         return built(line, out, at, b, lent);
     }
     at

@@ -17,7 +17,7 @@ use Rattle.layout.specs.Image.{front, image}
 use Rattle.layout.proofs.Images.{front-length}
 use Rattle.parts.proofs.Pieces.{pieces}
 use Rattle.layout.specs.declared.refusal.Verdict.the-variants.{Fits}
-use Rattle.image.specs.Judge.{after}
+use Rattle.judging.specs.Judge.{after}
 
 module _ (area format : ℕ) (kind head rest : List ℕ) where
   -- the bytes that the begin call of this record writes

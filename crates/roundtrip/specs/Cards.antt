@@ -21,7 +21,7 @@ use Rattle.blocks.specs.Read.{tlvLength, bodyOf, blockOf, messageFrom, containe
 use Rattle.records.specs.Parse.{headLen, payloadLen, idLen, wholeOf, parseOf}
 use Rattle.walk.specs.Step.{stepOf}
 use Rattle.walk.specs.Walked.{ended, chunked, listing, walkedFrom, walked}
-use Rattle.image.specs.Judge.{verdict, checks}
+use Rattle.judging.specs.Judge.{verdict, checks}
 use Rattle.image.specs.Builds.{textVerdict, emptyVerdict}
 
 pub record Cards : Type 0 where

@@ -7,6 +7,7 @@
 --   Says img p t        == the part p of img is the bytes t
 --   Linked img l c t    == the link l of img has the code c, the prefix of c, and the bytes t for the rest
 --   text-back           == and `text` gives the text back, where it is UTF-8
+--   one-record          == two records that read back from one image say the same (Same r q)
 --   uri-back            == and `uri` the code, its prefix and the rest, for the codes 0 to 35
 use mathlib.Core.Path.{_≡_, refl, ap, ap₂, sym, _∙_, subst}
 use mathlib.Core.Bool.{Bool, true, false}
@@ -268,3 +269,24 @@ text-back area t b u = text-said (textImage area t) (b .places) (b .format) t (b
 pub uri-back : (area code : ℕ) (t : List ℕ) (b : ReadsBack (uriImage area code t) (whole wellKnown uriKind (uriPayload code t))) → code ≤ 35 → utf8 t ≡ true
     → Linked (uriImage area code t) (uriOf (uriImage area code t) (b .places)) code t
 uri-back area code t b c u = uri-said (uriImage area code t) (b .places) (b .format) code t (b .kind) (b .payload) c u
+
+-- What two records that read back from one image have in common: everything that a record says.
+pub record Same (r q : Fields) : Type 0 where
+  pub format : r .format ≡ q .format
+  pub kind : r .kind ≡ q .kind
+  pub payload : r .payload ≡ q .payload
+
+pub one-record : (img : List ℕ) (r q : Fields) → ReadsBack img r → ReadsBack img q → Same r q
+one-record img r q b c =
+    let m : At (bodyAt r) (length (recordBytes r)) ≡ At (bodyAt q) (length (recordBytes q)) = sym (b .found) ∙ c .found in
+    let at : bodyAt r ≡ bodyAt q = cc in
+    let n : length (recordBytes r) ≡ length (recordBytes q) = cc in
+    let w : listing (b .places ∷ []) ended ≡ listing (c .places ∷ []) ended =
+        sym (b .alone) ∙ ap₂ (λ (x y : ℕ). walked img x (x + y)) at n ∙ c .alone in
+    let l : b .places ∷ [] ≡ c .places ∷ [] = ap (λ (x : Walked). x .records) w in
+    let p : b .places ≡ c .places = cc in
+    record {
+      format = sym (b .format) ∙ ap (λ (x : Record). x .format) p ∙ c .format;
+      kind = sym (b .kind) ∙ ap (kindOf img) p ∙ c .kind;
+      payload = sym (b .payload) ∙ ap (payloadOf img) p ∙ c .payload;
+    }
