@@ -1,8 +1,9 @@
 # Skipnadur. 'make demo' shows the product at work, 'make test' is the whole gate.
 .PHONY: demo test compare vectors fmt clean
 
+# LABEL is the text: make demo LABEL=HOXA13
 demo:
-	@tools/demo
+	@tools/demo $(LABEL)
 
 test:
 	@tools/gate

@@ -282,7 +282,7 @@ one-record img r q b c =
     let at : bodyAt r ≡ bodyAt q = cc in
     let n : length (recordBytes r) ≡ length (recordBytes q) = cc in
     let w : listing (b .places ∷ []) ended ≡ listing (c .places ∷ []) ended =
-        sym (b .alone) ∙ ap₂ (λ (x y : ℕ). walked img x (x + y)) at n ∙ c .alone in
+    sym (b .alone) ∙ ap₂ (λ (x y : ℕ). walked img x (x + y)) at n ∙ c .alone in
     let l : b .places ∷ [] ≡ c .places ∷ [] = ap (λ (x : Walked). x .records) w in
     let p : b .places ≡ c .places = cc in
     record {

@@ -1,0 +1,5 @@
+pub mod Lines
+pub mod Listings
+pub mod Room
+pub mod Texts
+pub mod Writes

@@ -1,0 +1,6 @@
+pub mod Binds
+pub mod Bounds
+pub mod Marks
+pub mod OneRows
+pub mod Runs
+pub mod Theorems

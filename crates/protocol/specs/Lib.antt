@@ -1,0 +1,16 @@
+pub mod Answer
+pub mod Transfer
+pub mod Mark
+pub mod Tag
+pub mod Proc
+pub mod Bus
+pub mod Wait
+pub mod Rf
+pub mod Setup
+pub mod Write
+pub mod Scrub
+pub mod Call
+pub mod Calls
+pub mod Trace
+pub mod Bound
+pub mod Cards

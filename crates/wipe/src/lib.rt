@@ -1,0 +1,2 @@
+// The wipe as a machine.
+pub mod scrub;

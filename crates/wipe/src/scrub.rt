@@ -1,0 +1,213 @@
+// scrub: the wipe, chunk by chunk.
+ghost use mathlib.Core.Path.{_≡_};
+ghost use Prim.Native.Nat.{_+_, _<_, _≤_};
+ghost use mathlib.Core.List.{[], _∷_};
+ghost use lib.ListN.{length};
+ghost use Rattle.wipe.specs.Scrub.{sizeOf, nextChunk, nextRow, afterRead, readStep, rereadStep, rowStep, waitedStep, scrubAsk, scrubStep, Near};
+use machine::ask::Ask;
+use machine::wait::Wait;
+use machine::wait::Waited;
+use protocol::answer::TagError;
+use scan::zeros::all_zero;
+use scan::zeros::blank_row;
+
+// The chunk at `at` of a wipe that ends at `end`, with the chunks left after it.
+pub struct Chunk {
+    pub left: usize,
+    pub at: usize,
+    pub end: usize,
+}
+
+// The row that is programmed, and which of the three after it are to be.
+pub struct Rows {
+    pub row: usize,
+    pub x: bool,
+    pub y: bool,
+    pub z: bool,
+}
+
+pub enum Scrub {
+    Read(Chunk),
+    Row(Chunk, Rows),
+    Wait(Chunk, Rows, Wait),
+    Reread(Chunk),
+}
+
+pub enum Scrubbed {
+    More(Scrub),
+    Done,
+    Not(TagError),
+}
+
+// How many bytes a chunk has.
+fn size(at: usize, end: usize) -> usize
+    ensures { λ r. ⌜ r ≡ sizeOf at end ⌝ }
+{
+    if end <= at {
+        return 0;
+    }
+    let n = end - at;
+    if n < 64 { n } else { 64 }
+}
+
+fn next_chunk(p: Chunk) -> Scrubbed
+    requires { ⌜ p .at < 70000 ⌝ }
+    ensures { λ r. ⌜ r ≡ nextChunk p ⌝ }
+{
+    let left = p.left;
+    if left == 0 {
+        return Scrubbed::Done;
+    }
+    Scrubbed::More(Scrub::Read(Chunk {
+        left: left - 1,
+        at: p.at + 64,
+        end: p.end,
+    }))
+}
+
+// The first row to be programmed from `row` on, of three; the chunk is read again where there is none.
+fn next_row(p: Chunk, row: usize, x: bool, y: bool, z: bool) -> Scrub
+    requires { ⌜ row < 70000 ⌝ }
+    ensures { λ r. ⌜ r ≡ nextRow p row (x ∷ y ∷ z ∷ []) ⌝ }
+{
+    if x {
+        return Scrub::Row(
+            p,
+            Rows {
+                row,
+                x: y,
+                y: z,
+                z: false,
+            },
+        );
+    }
+    let second = row + 16;
+    if y {
+        return Scrub::Row(
+            p,
+            Rows {
+                row: second,
+                x: z,
+                y: false,
+                z: false,
+            },
+        );
+    }
+    let third = second + 16;
+    if z {
+        return Scrub::Row(
+            p,
+            Rows {
+                row: third,
+                x: false,
+                y: false,
+                z: false,
+            },
+        );
+    }
+    Scrub::Reread(p)
+}
+
+// A chunk has been read: which of its rows are not zero.
+fn rows_found(p: Chunk, a: bool, b: bool, c: bool, d: bool) -> Scrubbed
+    requires { ⌜ p .at < 69000 ⌝ }
+    ensures { λ r. ⌜ r ≡ afterRead p (a ∷ b ∷ c ∷ d ∷ []) ⌝ }
+{
+    let at = p.at;
+    if a {
+        return Scrubbed::More(Scrub::Row(
+            p,
+            Rows {
+                row: at,
+                x: b,
+                y: c,
+                z: d,
+            },
+        ));
+    }
+    if b | c | d {
+        return Scrubbed::More(next_row(p, at + 16, b, c, d));
+    }
+    next_chunk(p)
+}
+
+// The reply to the read of a chunk.
+fn read_step(p: Chunk, ack: bool, reply: &[u8]) -> Scrubbed
+    requires { ⌜ (p .at < 69000) × (64 ≤ length (now reply)) ⌝ }
+    ensures { λ r. ⌜ r ≡ readStep p ack (now (reply .entry)) ⌝ }
+{
+    if ack {
+        let n = size(p.at, p.end);
+        let got = &reply[..n];
+        let a = !blank_row(got, 0);
+        let b = !blank_row(got, 16);
+        let c = !blank_row(got, 32);
+        let d = !blank_row(got, 48);
+        rows_found(p, a, b, c, d)
+    } else {
+        Scrubbed::Not(TagError::NoAnswer)
+    }
+}
+
+// The reply to the second read, of a chunk that was programmed.
+fn reread_step(p: Chunk, ack: bool, reply: &[u8]) -> Scrubbed
+    requires { ⌜ (p .at < 69000) × (64 ≤ length (now reply)) ⌝ }
+    ensures { λ r. ⌜ r ≡ rereadStep p ack (now (reply .entry)) ⌝ }
+{
+    if ack {
+        let n = size(p.at, p.end);
+        if all_zero(reply, 0, n) {
+            next_chunk(p)
+        } else {
+            Scrubbed::Not(TagError::NotTaken)
+        }
+    } else {
+        Scrubbed::Not(TagError::NoAnswer)
+    }
+}
+
+fn row_step(p: Chunk, r: Rows, ack: bool) -> Scrubbed
+    ensures { λ s. ⌜ s ≡ rowStep p r ack ⌝ }
+{
+    if ack {
+        Scrubbed::More(Scrub::Wait(p, r, Wait::new()))
+    } else {
+        Scrubbed::Not(TagError::NoAnswer)
+    }
+}
+
+fn waited_step(p: Chunk, r: Rows, w: Waited) -> Scrubbed
+    requires { ⌜ r .row < 69000 ⌝ }
+    ensures { λ s. ⌜ s ≡ waitedStep p r w ⌝ }
+{
+    match w {
+        Waited::More(n) => Scrubbed::More(Scrub::Wait(p, r, n)),
+        Waited::Ready => Scrubbed::More(next_row(p, r.row + 16, r.x, r.y, r.z)),
+        Waited::Busy => Scrubbed::Not(TagError::Busy),
+    }
+}
+
+impl Scrub {
+    pub fn ask(self) -> Ask
+        ensures { λ r. ⌜ r ≡ scrubAsk self ⌝ }
+    {
+        match self {
+            Scrub::Read(p) => Ask::Read(0x53, p.at, size(p.at, p.end)),
+            Scrub::Row(_, r) => Ask::Zeros(r.row),
+            Scrub::Wait(_, _, w) => w.ask(),
+            Scrub::Reread(p) => Ask::Read(0x53, p.at, size(p.at, p.end)),
+        }
+    }
+
+    pub fn step(self, ack: bool, reply: &[u8]) -> Scrubbed
+        requires { ⌜ Near self × (64 ≤ length (now reply)) ⌝ }
+        ensures { λ r. ⌜ r ≡ scrubStep self ack (now (reply .entry)) ⌝ }
+    {
+        match self {
+            Scrub::Read(p) => read_step(p, ack, reply),
+            Scrub::Row(p, r) => row_step(p, r, ack),
+            Scrub::Wait(p, r, w) => waited_step(p, r, w.step(ack)),
+            Scrub::Reread(p) => reread_step(p, ack, reply),
+        }
+    }
+}

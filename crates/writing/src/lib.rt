@@ -1,0 +1,2 @@
+// write as a machine: rows, then the read back.
+pub mod write;
