@@ -64,8 +64,11 @@ stageAsk n (G.FinishStatus stuck) = A.Read user itStsDyn 1
 stageAsk n (G.FinishWipe stuck s) = scrubAsk s
 
 -- whether a phone wrote: yes too where the read failed
+abbrev pub wroteByte : Bool → ℕ → Bool
+wroteByte ack v = pick ack (wroteBit v) true
+
 abbrev pub wrote : Bool → List ℕ → Bool
-wrote ack got = pick ack (wroteBit (first got)) true
+wrote ack got = wroteByte ack (first got)
 
 abbrev pub identifyTurn : Mark → SetupStep → Turn
 identifyTurn m (U.More s) = Over m Done
@@ -132,23 +135,34 @@ finishTurn m stuck (C.Not e) = Over m (firstAnswer stuck (Not e))
 abbrev pub finishStart : Mark → Bool → Turn
 finishStart m stuck = finishTurn m stuck (scrubNew (wipeEnd m))
 
+-- after the status of `finish`: a phone's write widens the mark to the whole part
+abbrev pub statusTurn : Mark → Bool → Bool → ℕ → Turn
+statusTurn m stuck ack v = pick (wroteByte ack v) (finishStart whole stuck) (finishStart m stuck)
+
+abbrev pub readTurn : Mark → Bool → Turn
+readTurn m ack = pick ack (Over m Done) (Over m (Not NoAnswer))
+
+-- after the whole memory was read
+abbrev pub wholeReadTurn : Mark → Bool → List ℕ → Turn
+wholeReadTurn m ack out = pick ack (Over (found (take userMemory out)) Done) (Over m (Not NoAnswer))
+
 abbrev pub stageStep : List ℕ → Mark → Stage → Bool → List ℕ → Turn
 stageStep lent m G.Identify ack got = identifyTurn m (identified ack got)
 stageStep lent m (G.Prepare s) ack got = prepareTurn m (setupStep s ack got)
 stageStep lent m (G.WaitReady w) ack got = waitTurn m (waitStep w ack)
-stageStep lent m (G.ReadUser at k) ack got = pick ack (Over m Done) (Over m (Not NoAnswer))
+stageStep lent m (G.ReadUser at k) ack got = readTurn m ack
 stageStep lent m (G.Write w) ack got = writeTurn m (writeStep w ack got lent)
 stageStep lent m (G.Switching s) ack got = switchTurn m (switchStep s ack (first got))
 stageStep lent m G.RfWrote ack got = Over m (Wrote (wrote ack got))
 stageStep lent m (G.WholeOff s) ack got = wholeTurn m (switchStep s ack (first got))
 stageStep lent m G.WholeStatus ack got = Open m G.WholeRead
-stageStep lent m G.WholeRead ack got = pick ack (Over (found (take userMemory got)) Done) (Over m (Not NoAnswer))
+stageStep lent m G.WholeRead ack got = wholeReadTurn m ack got
 stageStep lent m (G.Wipe s) ack got = wipeTurn m (scrubStep s ack got)
 stageStep lent m (G.BeginSetup s) ack got = beginTurn m (setupStep s ack got)
 stageStep lent m (G.BeginOff s) ack got = beginOffTurn m (switchStep s ack (first got))
 stageStep lent m G.LiveStatus ack got = Open m (G.Switching (switchNew true))
 stageStep lent m (G.FinishOff s) ack got = finishOffTurn m (switchStep s ack (first got))
-stageStep lent m (G.FinishStatus stuck) ack got = pick (wrote ack got) (finishStart whole stuck) (finishStart m stuck)
+stageStep lent m (G.FinishStatus stuck) ack got = statusTurn m stuck ack (first got)
 stageStep lent m (G.FinishWipe stuck s) ack got = finishTurn m stuck (scrubStep s ack got)
 
 abbrev pub startOf : Call → Mark → Turn

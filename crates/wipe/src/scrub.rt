@@ -3,7 +3,7 @@ ghost use mathlib.Core.Path.{_≡_};
 ghost use Prim.Native.Nat.{_+_, _<_, _≤_};
 ghost use mathlib.Core.List.{[], _∷_};
 ghost use lib.ListN.{length};
-ghost use Rattle.wipe.specs.Scrub.{sizeOf, nextChunk, nextRow, afterRead, readStep, rereadStep, rowStep, waitedStep, scrubAsk, scrubStep, Near};
+ghost use Rattle.wipe.specs.Scrub.{sizeOf, scrubNew, nextChunk, nextRow, afterRead, readStep, rereadStep, rowStep, waitedStep, scrubAsk, scrubStep, Near};
 use machine::ask::Ask;
 use machine::wait::Wait;
 use machine::wait::Waited;
@@ -48,6 +48,22 @@ fn size(at: usize, end: usize) -> usize
     }
     let n = end - at;
     if n < 64 { n } else { 64 }
+}
+
+// A wipe to `end`, from its first chunk.
+pub fn scrub_new(end: usize) -> Scrubbed
+    requires { ⌜ end ≤ 8192 ⌝ }
+    ensures { λ r. ⌜ r ≡ scrubNew end ⌝ }
+{
+    let n = (end + 63) / 64;
+    if n == 0 {
+        return Scrubbed::Done;
+    }
+    Scrubbed::More(Scrub::Read(Chunk {
+        left: n - 1,
+        at: 0,
+        end,
+    }))
 }
 
 fn next_chunk(p: Chunk) -> Scrubbed

@@ -46,6 +46,13 @@ pub next-piece : (p : Piece) (n k : ℕ) → k ≡ pieceOf p n → (p .left ≡ 
 next-piece p n k e h =
     ap (λ (j : ℕ). More (K.Row (record { left = p .left - 1; start = p .start; done = p .done + j }))) e ∙ piece-from (p .left) (p .start) (p .done + pieceOf p n) n h
 
+-- a write from its first row, or with no row at all
+pub first-piece : (start n k : ℕ) → k ≡ rowCount start n → (k ≡ 0 → ⊥) → More (K.Row (record { left = k - 1; start = start; done = 0 })) ≡ writeNew start n
+first-piece start n k e h = piece-from k start 0 n h ∙ ap (λ (l : ℕ). pieceFrom l start 0 n) e
+
+pub no-piece : (start n k : ℕ) → k ≡ rowCount start n → k ≡ 0 → checkNew start n ≡ writeNew start n
+no-piece start n k e z = ap (λ (l : ℕ). pieceFrom l start 0 n) (sym z ∙ e)
+
 pub last-piece : (p : Piece) (n : ℕ) → p .left ≡ 0 → checkNew (p .start) n ≡ nextPiece p n
 last-piece p n e = ap (λ (l : ℕ). pieceFrom l (p .start) (p .done + pieceOf p n) n) (sym e)
 

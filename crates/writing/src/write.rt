@@ -2,11 +2,12 @@
 ghost use mathlib.Core.Path.{_≡_};
 ghost use Prim.Native.Nat.{_+_, _<_, _≤_};
 ghost use lib.ListN.{length};
-ghost use Rattle.writing.specs.Write.{pieceOf, chunkOf, checkNew, nextPiece, pieceStep, pieceWaited, comparedTo, checkStep, writeAsk, writeStep, Inside};
+ghost use Rattle.writing.specs.Write.{pieceOf, chunkOf, checkNew, writeNew, nextPiece, pieceStep, pieceWaited, comparedTo, checkStep, writeAsk, writeStep, Inside};
 use machine::ask::Ask;
 use machine::wait::Wait;
 use machine::wait::Waited;
 use protocol::answer::TagError;
+use scan::rows::row_count;
 use scan::rows::row_len;
 use scan::zeros::same;
 
@@ -59,6 +60,22 @@ pub fn check_new(start: usize, len: usize) -> Written
         start,
         done: 0,
         alike: true,
+    }))
+}
+
+// A write of `len` bytes at `start`, from its first row.
+pub fn write_new(start: usize, len: usize) -> Written
+    requires { ⌜ len ≤ 8192 ⌝ }
+    ensures { λ r. ⌜ r ≡ writeNew start len ⌝ }
+{
+    let n = row_count(start, len);
+    if n == 0 {
+        return check_new(start, len);
+    }
+    Written::More(Write::Row(Piece {
+        left: n - 1,
+        start,
+        done: 0,
     }))
 }
 
