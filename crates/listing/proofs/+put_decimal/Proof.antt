@@ -67,7 +67,7 @@ put-decimal-returns : (t : ℕ) → put-decimal-lts.Need-returns (
   put-decimal-below t,
   put-decimal.Post,
 ) (put-decimal-at t) put-decimal.Post
-put-decimal-returns t c = wrote-as (decimal-small _ (c .before .before .before .before .if1 .taken)) (c .before .before .put .ensures)
+put-decimal-returns t c = wrote-as (decimal-small (c .before .before .before .before .before .before .args .n) (omega arith)) (c .before .before .put .ensures)
 
 put-decimal-put-decimal-requires : (t : ℕ) → put-decimal-lts.Need-put-decimal-requires (
   put-reads.Asked,

@@ -5,33 +5,38 @@ use mathlib.Core.Path.{ap}
 use lib.ListN.{length}
 use denote.Ref.{now}
 use Rattle.listing.proofs.Room.{listing-fits}
+use Rattle.listing.proofs.Lines.{refused-length}
 use Rattle.listing.proofs.Listings.{too-long, short-enough, list-none, list-done}
+use Rattle.listing.proofs.Texts.{decimal-two}
 use Rattle.listing.proofs.Writes.{wrote-as}
 use native.Mathlib.Omega.{arith}
 
 returns : tie.Need-returns
-returns c = list-none _ _ (c .if1 .taken)
+returns c = list-none (now (c .before .before .before .args .image)) (now (c .before .before .before .args .out)) (omega arith)
 
 put-refused-requires : tie.Need-put-refused-requires
-put-refused-requires c κs = omega (arith, listing-fits (now (c .before .before .before .before .before .args .image)), ap length (too-long (now (c .before .before .before .before .before .args .image)) (c .before .if2 .taken)))
+put-refused-requires c κs = omega (arith, refused-length 35, decimal-two 35 (omega arith))
 
 same-length : tie.Need-same-length
 same-length c = search needs
 
 returns-2 : tie.Need-returns-2
-returns-2 c = list-done _ _ (c .before .before .before .before .before .if1 .left) (wrote-as (too-long _ (c .before .before .before .before .if2 .taken)) (c .before .before .put-refused .ensures))
+returns-2 c = let image = now (c .before .before .before .before .before .before .before .before .args .image) in
+    list-done image (now (c .before .before .before .before .before .before .before .before .args .out)) (omega arith) (wrote-as (too-long image (omega arith)) (c .before .before .put-refused .ensures))
 
 read-requires : tie.Need-read-requires
 read-requires c κs = search needs
 
 put-message-requires : tie.Need-put-message-requires
-put-message-requires c κs = omega (arith, listing-fits (now (c .before .before .before .before .before .before .args .image)), ap length (short-enough (now (c .before .before .before .before .before .before .args .image)) (c .before .before .if2 .left) (c .read .ensures)))
+put-message-requires c κs = let image = now (c .before .before .before .before .before .before .args .image) in
+    omega (arith, listing-fits image, ap length (short-enough image (omega arith) (c .read .ensures)))
 
 same-length-2 : tie.Need-same-length-2
 same-length-2 c = search needs
 
 returns-3 : tie.Need-returns-3
-returns-3 c = list-done _ _ (c .before .before .before .before .before .before .if1 .left) (wrote-as (short-enough _ (c .before .before .before .before .before .if2 .left) (c .before .before .before .read .ensures)) (c .before .before .put-message .ensures))
+returns-3 c = let image = now (c .before .before .before .before .before .before .before .before .before .args .image) in
+    list-done image (now (c .before .before .before .before .before .before .before .before .before .args .out)) (omega arith) (wrote-as (short-enough image (omega arith) (c .before .before .before .read .ensures)) (c .before .before .put-message .ensures))
 
 pub list-spec : {M : Type 1} → statement M
 list-spec =

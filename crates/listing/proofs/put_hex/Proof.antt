@@ -42,7 +42,7 @@ shared-slice-read-hex-digit-2 : tie.Need-shared-slice-read-hex-digit-2 Inv-loop 
 shared-slice-read-hex-digit-2 c = omega arith
 
 hex-digit-requires-2 : tie.Need-hex-digit-requires-2 Inv-loop μ-loop
-hex-digit-requires-2 c κs = omega arith
+hex-digit-requires-2 c κs = omega (arith, c .shared-slice-known3 .given (c .before .before .before .before .before .before .before .before .before .loop .i))
 
 put-requires-2 : tie.Need-put-requires-2 Inv-loop μ-loop
 put-requires-2 c κs = omega (arith, come (c .before .before .before .before .before .before .before .before .before .before), c .before .before .before .before .before .put .ensures .place)
