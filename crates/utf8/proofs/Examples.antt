@@ -1,4 +1,4 @@
--- The examples of the document: of D92, and below table 3-7.
+-- Examples of D92 and of the text below table 3-7, written down from memory of the standard and not yet held against it.
 use mathlib.Core.Path.{_≡_, refl}
 use mathlib.Core.Bool.{true, false}
 use mathlib.Core.List.{[], _∷_}
