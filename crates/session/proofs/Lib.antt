@@ -1,3 +1,1 @@
-pub mod Bridge
-pub mod Drive
-pub mod Theorems
+pub mod Unders

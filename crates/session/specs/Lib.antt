@@ -1,3 +1,2 @@
-pub mod Turns
-pub mod Resume
-pub mod Runs
+pub mod Sound
+pub mod Steps

@@ -1,5 +1,4 @@
 // A session with a tag: a call is started, asks for its transfers one by one, takes the replies, and answers.
 pub mod session;
-pub mod stage;
-pub mod starts;
-pub mod turns;
+pub mod sound;
+pub mod steps;

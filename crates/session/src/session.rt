@@ -1,7 +1,8 @@
 // A session by value: the mark, and what its open call has done so far.
 ghost use mathlib.Core.Path.{_≡_};
 ghost use Rattle.protocol.specs.Mark.{given};
-use crate::stage::Stage;
+ghost use Rattle.session.specs.Steps.{idle};
+use turns::stage::Stage;
 
 // Whether a call is open, and what it waits on.
 pub enum Now {
@@ -11,7 +12,10 @@ pub enum Now {
 
 pub struct Session {
     pub mark: usize,
+    // Rows programmed by the open call.
     pub rows: usize,
+    // Bytes of data that were lent to it.
+    pub lent: usize,
     pub now: Now,
 }
 
@@ -27,7 +31,7 @@ impl Session {
 
     // A session whose mark was carried from the last one: the smaller of `dirty` and the whole part.
     pub fn new(dirty: usize) -> Session
-        ensures { λ r. ⌜ (r .mark ≡ given dirty) × (r .rows ≡ 0) × (r .now ≡ Now.Idle) ⌝ }
+        ensures { λ r. ⌜ r ≡ idle (given dirty) ⌝ }
     {
         let mark = if dirty < Session::USER_MEMORY {
             dirty
@@ -37,6 +41,7 @@ impl Session {
         Session {
             mark,
             rows: 0,
+            lent: 0,
             now: Now::Idle,
         }
     }

@@ -73,7 +73,7 @@ pub fn is_the_part(id: &[u8]) -> bool
     (id[11] == 0xE0) & ((low + 256 * high + 1) * 4 == 8192)
 }
 
-fn identified(ack: bool, id: &[u8]) -> SetupStep
+pub fn identified(ack: bool, id: &[u8]) -> SetupStep
     requires { ⌜ 12 ≤ length (now id) ⌝ }
     ensures { λ r. ⌜ r ≡ identified ack (now (id .entry)) ⌝ }
 {

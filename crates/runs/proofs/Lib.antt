@@ -1,0 +1,3 @@
+pub mod Bridge
+pub mod Drive
+pub mod Theorems

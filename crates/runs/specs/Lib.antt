@@ -1,0 +1,2 @@
+pub mod Resume
+pub mod Runs
