@@ -1,0 +1,32 @@
+-- What the code of `decode` comes to.
+use mathlib.Core.Path.{_≡_, sym, ap, _∙_}
+use mathlib.Core.List.{List}
+use mathlib.Core.Bool.{Bool, true, false, _&&_}
+use Prim.Native.Nat.{ℕ}
+use lib.ListN.{length}
+use borrow.Author.Tests.{eq-eqb}
+use Rattle.slices.specs.Pick.{pick}
+use Rattle.session.specs.Sound.{sound}
+use Rattle.session.specs.declared.session.Session.{Session}
+use Rattle.state.specs.Flat.{flatten}
+use Rattle.state.specs.From.{sessionFrom}
+use Rattle.state.specs.Bytes.{sameFlat, flatOf, decodeFlat, decodeOf}
+use Rattle.state.specs.declared.flat.Flat.{Flat}
+use Rattle.state.specs.declared.decode.Decoded.{Decoded}
+use Rattle.state.specs.declared.decode.Decoded.the-variants.{State, Nothing}
+
+module _ (f g : Flat) (s : Session) (b d : Bool) (es : s ≡ sessionFrom f) (eg : g ≡ flatten s) (eb : b ≡ sameFlat g f) (ed : d ≡ sound s) where
+  decode-either : pick (b && d) (State s) Nothing ≡ decodeFlat f
+  decode-either =
+      let x : b ≡ sameFlat (flatten (sessionFrom f)) f = eb ∙ ap (λ (q : Flat). sameFlat q f) (eg ∙ ap flatten es) in
+      let y : d ≡ sound (sessionFrom f) = ed ∙ ap sound es in
+      λ i. pick (x i && y i) (State (es i)) Nothing
+
+  pub decode-yes : (b && d) ≡ true → State s ≡ decodeFlat f
+  decode-yes h = sym (ap (λ (t : Bool). pick t (State s) Nothing) h) ∙ decode-either
+
+  pub decode-no : (b && d) ≡ false → Nothing ≡ decodeFlat f
+  decode-no h = sym (ap (λ (t : Bool). pick t (State s) Nothing) h) ∙ decode-either
+
+pub decode-long : (l : List ℕ) (f : Flat) (d : Decoded) → length l ≡ 20 → f ≡ flatOf l → d ≡ decodeFlat f → d ≡ decodeOf l
+decode-long l f d h ef ed = rw (eq-eqb (length l) 20 h) (ed ∙ ap decodeFlat ef)

@@ -1,0 +1,3 @@
+pub mod Flat
+pub mod From
+pub mod Bytes
