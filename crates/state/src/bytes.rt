@@ -38,7 +38,7 @@ pub fn bytes(f: Flat) -> [u8; 20]
     ]
 }
 
-fn wide(b: u8) -> usize
+pub fn wide(b: u8) -> usize
     ensures { λ r. ⌜ (r ≡ b) × (r < 256) ⌝ }
 {
     b as usize
