@@ -7,7 +7,9 @@
 --                                  the bytes to send stand in the transfer buffer, zeros after them up to 19; at the answer the first 19
 --                                  and 64 bytes are zero. Bytes past these never change
 --   intoOut st                  == the bytes that st reads go into `out`
---   short t r                   == a transfer buffer under 19 bytes, or a reply buffer under 64
+--   openedOf s t r              == whether a call may be started on the state s, with a transfer buffer of t bytes and a reply buffer of r:
+--                                  34, 32, 33 (under 19, under 64)
+--   heardOf s t r lent out      == whether the state s takes a reply with these buffers: 34, 31, 33
 --   startLeft c s t r           == the call c started on the state s: 34, 32, 33, or its first transfer, or its answer
 --   replyLeft s t r lent out ack == a reply given: 34, 31, 33, or the next transfer, or the answer
 --   nextLeft s t r lent out     == the open call's transfer once more: 34, 31, 33, or the transfer, nothing else changed
@@ -23,6 +25,7 @@ use Rattle.slices.specs.Pick.{pick}
 use Rattle.protocol.specs.Transfer.{Transfer, sent}
 use Rattle.protocol.specs.Mark.{Mark}
 use Rattle.protocol.specs.Mark as mark
+use Rattle.protocol.specs.Mark.{none}
 use Rattle.protocol.specs.Call.{Call}
 use Rattle.protocol.specs.Answer.{answerNumber, answerValue}
 use Rattle.protocol.specs.declared.answer.Answer.{Answer}
@@ -40,6 +43,10 @@ use Rattle.session.specs.declared.session.Session.{Session}
 use Rattle.state.specs.Bytes.{stateLength, encode, decodeOf}
 use Rattle.state.specs.declared.decode.Decoded.{Decoded}
 use Rattle.state.specs.declared.decode.Decoded.the-variants.{State, Nothing}
+use Rattle.telling.specs.declared.opening.Opened.{Opened}
+use Rattle.telling.specs.declared.opening.Opened.the-variants as O
+use Rattle.telling.specs.declared.opening.Heard.{Heard}
+use Rattle.telling.specs.declared.opening.Heard.the-variants as H
 use Rattle.telling.specs.Step.{transferLength, replyLength, answerStep, transferStep, padded}
 
 pub record Left : Type 0 where
@@ -95,53 +102,64 @@ settled lent rows (Over m a) t r = record {
     transfer = replicate transferLength 0 ++ drop transferLength t;
     reply = replicate replyLength 0 ++ drop replyLength r }
 
-abbrev pub short : List ℕ → List ℕ → Bool
-short t r = ltb (length t) transferLength || ltb (length r) replyLength
+abbrev pub short : ℕ → ℕ → Bool
+short t r = ltb t transferLength || ltb r replyLength
 
-abbrev pub startNow : Call → Mark → Now → List ℕ → List ℕ → List ℕ → Left
-startNow c m (N.Open st) s t r = refusedLeft 32 s t r
-startNow c m N.Idle s t r = pick (short t r) (refusedLeft 33 s t r) (settled (lentTo c) 0 (startOf c m) t r)
+-- a call may be started with the mark at m, or the refusal's number
+abbrev pub openedNow : Mark → Now → ℕ → ℕ → Opened
+openedNow m (N.Open st) t r = O.Not 32
+openedNow m N.Idle t r = pick (short t r) (O.Not 33) (O.At m)
 
-abbrev pub startDecoded : Call → Decoded → List ℕ → List ℕ → List ℕ → Left
-startDecoded c Nothing s t r = refusedLeft 34 s t r
-startDecoded c (State q) s t r = startNow c (q .mark) (q .now) s t r
+abbrev pub openedBy : Decoded → ℕ → ℕ → Opened
+openedBy Nothing t r = O.Not 34
+openedBy (State q) t r = openedNow (q .mark) (q .now) t r
+
+abbrev pub openedOf : List ℕ → ℕ → ℕ → Opened
+openedOf s t r = openedBy (decodeOf s) t r
+
+abbrev pub markOf : Opened → Mark
+markOf (O.At m) = m
+markOf (O.Not n) = none
+
+abbrev pub startedLeft : Opened → List ℕ → Turn → List ℕ → List ℕ → List ℕ → Left
+startedLeft (O.At m) lent turn s t r = settled lent 0 turn t r
+startedLeft (O.Not n) lent turn s t r = refusedLeft n s t r
 
 abbrev pub startLeft : Call → List ℕ → List ℕ → List ℕ → Left
-startLeft c s t r = startDecoded c (decodeOf s) s t r
+startLeft c s t r =
+    startedLeft (openedOf s (length t) (length r)) (lentTo c) (startOf c (markOf (openedOf s (length t) (length r)))) s t r
 
--- the lent buffers have another length than they may have
-abbrev pub misfit : Session → Stage → List ℕ → List ℕ → List ℕ → List ℕ → Bool
-misfit q st t r lent out = short t r || not (eqb (length lent) (q .lent)) || not (eqb (length out) (outOf st))
+-- the lent buffers have another length than they may have: transfer and reply buffer, data and `out`
+abbrev pub misfit : Session → Stage → ℕ → ℕ → ℕ → ℕ → Bool
+misfit q st t r lent out = short t r || not (eqb lent (q .lent)) || not (eqb out (outOf st))
 
--- the rows after one more transfer
-abbrev pub rowsAfter : Session → List ℕ → Stage → Bool → ℕ
-rowsAfter q lent st ack = q .rows + counted (stageAsk (length lent) st) ack
+-- a reply may be taken: the mark, the rows and the stage; or the refusal's number
+abbrev pub heardNow : Session → Now → ℕ → ℕ → ℕ → ℕ → Heard
+heardNow q N.Idle t r lent out = H.Not 31
+heardNow q (N.Open st) t r lent out = pick (misfit q st t r lent out) (H.Not 33) (H.Goes (q .mark) (q .rows) st)
 
-abbrev pub replyNow : Session → Now → List ℕ → List ℕ → List ℕ → List ℕ → List ℕ → Bool → Left
-replyNow q N.Idle s t r lent out ack = refusedLeft 31 s t r
-replyNow q (N.Open st) s t r lent out ack =
-    pick (misfit q st t r lent out) (refusedLeft 33 s t r)
-    (settled lent (rowsAfter q lent st ack) (stageStep lent (q .mark) st ack (gotBy st r out)) t r)
+abbrev pub heardBy : Decoded → ℕ → ℕ → ℕ → ℕ → Heard
+heardBy Nothing t r lent out = H.Not 34
+heardBy (State q) t r lent out = heardNow q (q .now) t r lent out
 
-abbrev pub replyDecoded : Decoded → List ℕ → List ℕ → List ℕ → List ℕ → List ℕ → Bool → Left
-replyDecoded Nothing s t r lent out ack = refusedLeft 34 s t r
-replyDecoded (State q) s t r lent out ack = replyNow q (q .now) s t r lent out ack
+abbrev pub heardOf : List ℕ → List ℕ → List ℕ → List ℕ → List ℕ → Heard
+heardOf s t r lent out = heardBy (decodeOf s) (length t) (length r) (length lent) (length out)
+
+abbrev pub repliedLeft : Heard → List ℕ → List ℕ → List ℕ → List ℕ → List ℕ → Bool → Left
+repliedLeft (H.Not n) s t r lent out ack = refusedLeft n s t r
+repliedLeft (H.Goes m rows st) s t r lent out ack =
+    settled lent (rows + counted (stageAsk (length lent) st) ack) (stageStep lent m st ack (gotBy st r out)) t r
 
 abbrev pub replyLeft : List ℕ → List ℕ → List ℕ → List ℕ → List ℕ → ℕ → Left
-replyLeft s t r lent out ack = replyDecoded (decodeOf s) s t r lent out (not (eqb ack 0))
+replyLeft s t r lent out ack = repliedLeft (heardOf s t r lent out) s t r lent out (not (eqb ack 0))
 
-abbrev pub nextNow : Session → Now → List ℕ → List ℕ → List ℕ → List ℕ → List ℕ → Left
-nextNow q N.Idle s t r lent out = refusedLeft 31 s t r
-nextNow q (N.Open st) s t r lent out =
-    pick (misfit q st t r lent out) (refusedLeft 33 s t r)
-    (record { step = transferStep (intoOut st) (waitsOn lent st); state = s; transfer = framed lent st t; reply = r })
-
-abbrev pub nextDecoded : Decoded → List ℕ → List ℕ → List ℕ → List ℕ → List ℕ → Left
-nextDecoded Nothing s t r lent out = refusedLeft 34 s t r
-nextDecoded (State q) s t r lent out = nextNow q (q .now) s t r lent out
+abbrev pub repeatedLeft : Heard → List ℕ → List ℕ → List ℕ → List ℕ → Left
+repeatedLeft (H.Not n) s t r lent = refusedLeft n s t r
+repeatedLeft (H.Goes m rows st) s t r lent =
+    record { step = transferStep (intoOut st) (waitsOn lent st); state = s; transfer = framed lent st t; reply = r }
 
 abbrev pub nextLeft : List ℕ → List ℕ → List ℕ → List ℕ → List ℕ → Left
-nextLeft s t r lent out = nextDecoded (decodeOf s) s t r lent out
+nextLeft s t r lent out = repeatedLeft (heardOf s t r lent out) s t r lent
 
 abbrev pub newState : List ℕ → ℕ → List ℕ
 newState s n = pick (eqb (length s) stateLength) (encode (idle (mark.given n))) s

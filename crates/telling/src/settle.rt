@@ -4,11 +4,12 @@ ghost use mathlib.Core.List.{_++_};
 ghost use Prim.Native.Nat.{_<_, _≤_};
 ghost use lib.ListN.{length, drop, replicate};
 ghost use Rattle.state.specs.Bytes.{encode};
-ghost use Rattle.telling.specs.Left.{Leaves, intoOut, framed, waitsOn, settled};
+ghost use Rattle.telling.specs.Left.{Leaves, intoOut, framed, waitsOn, settled, startedLeft};
 ghost use Rattle.protocol.specs.Answer.{answerNumber, answerValue};
 ghost use Rattle.telling.specs.Step.{answerStep, transferStep};
-ghost use Rattle.telling.specs.Fit.{StageFits, TurnFits};
+ghost use Rattle.telling.specs.Fit.{StageFits, TurnFits, StartFits};
 use crate::frame::frame;
+use crate::opening::Opened;
 use crate::step::ask_step;
 use crate::step::step;
 use protocol::answer::Answer;
@@ -93,5 +94,16 @@ pub fn settle(state: &mut [u8], transfer: &mut [u8], reply: &mut [u8], lent: &[u
             clear(transfer, reply);
             answer(rows, a)
         }
+    }
+}
+
+// A call that was started: what its first turn leaves, or the refusal, which touches nothing.
+pub fn started(state: &mut [u8], transfer: &mut [u8], reply: &mut [u8], lent: &[u8], o: Opened, t: Turn) -> u64
+    requires { ⌜ StartFits o (length (now state)) (length (now transfer)) (length (now reply)) (length (now lent)) t ⌝ }
+    ensures { λ r. ⌜ Leaves (startedLeft o (now (lent .entry)) t (now (state .entry)) (now (transfer .entry)) (now (reply .entry))) r (now (state .exit)) (now (transfer .exit)) (now (reply .exit)) ⌝ }
+{
+    match o {
+        Opened::At(_) => settle(state, transfer, reply, lent, 0, t),
+        Opened::Not(n) => step(0, n, 0, 0),
     }
 }
