@@ -1,0 +1,51 @@
+use borrow.Author.Needs.{needs}
+use Rattle.skipnadur.proofs.starts.skp_tag_read_user.Statement.{statement}
+use Rattle.skipnadur.proofs.starts.skp_tag_read_user.Tie as tie
+use mathlib.Core.Path.{ap, _∙_}
+use denote.Ref.{now}
+use lib.ListN.{length}
+use Rattle.protocol.specs.Call as call
+use Rattle.turns.specs.Turns.{startOf}
+use Rattle.skipnadur.proofs.Opens.{start-fits}
+use Rattle.skipnadur.proofs.Calls.{leaves-as, start-is}
+
+opened-at-requires : tie.Need-opened-at-requires
+opened-at-requires c κs = search needs
+
+slice-aggregate-started : tie.Need-slice-aggregate-started
+slice-aggregate-started c = search needs
+
+mark-of-requires : tie.Need-mark-of-requires
+mark-of-requires c κs = search needs
+
+read-user-requires : tie.Need-read-user-requires
+read-user-requires c κs = search needs
+
+started-requires : tie.Need-started-requires
+started-requires c κs = start-fits (call.readUser (c .before .before .before .before .before .before .before .before .before .before .before .before .args .at) (length (now (c .before .before .before .before .before .before .before .before .before .before .before .before .args .out)))) (now (c .before .before .before .before .before .before .before .before .before .before .before .before .args .state)) (length (now (c .before .before .before .before .before .before .before .before .before .before .before .before .args .transfer))) (length (now (c .before .before .before .before .before .before .before .before .before .before .before .before .args .reply))) (c .before .before .before .before .before .before .opened-at .result) (c .read-user .result) (c .before .before .before .before .before .before .opened-at .ensures) (c .read-user .ensures ∙ ap (startOf (call.readUser (c .before .before .before .before .before .before .before .before .before .before .before .before .args .at) (length (now (c .before .before .before .before .before .before .before .before .before .before .before .before .args .out))))) (c .before .mark-of .ensures))
+
+same-length : tie.Need-same-length
+same-length c = search needs
+
+same-length-2 : tie.Need-same-length-2
+same-length-2 c = search needs
+
+same-length-3 : tie.Need-same-length-3
+same-length-3 c = search needs
+
+returns : tie.Need-returns
+returns c = leaves-as _ _ (start-is (call.readUser (c .before .before .before .before .before .before .before .before .before .before .before .before .before .before .before .before .before .before .before .args .at) (length (now (c .before .before .before .before .before .before .before .before .before .before .before .before .before .before .before .before .before .before .before .args .out)))) (now (c .before .before .before .before .before .before .before .before .before .before .before .before .before .before .before .before .before .before .before .args .state)) (now (c .before .before .before .before .before .before .before .before .before .before .before .before .before .before .before .before .before .before .before .args .transfer)) (now (c .before .before .before .before .before .before .before .before .before .before .before .before .before .before .before .before .before .before .before .args .reply)) (c .before .before .before .before .before .before .before .before .before .before .before .before .before .opened-at .result) (c .before .before .before .before .before .before .before .before .mark-of .result) (c .before .before .before .before .before .before .before .read-user .result) (c .before .before .before .before .before .before .before .before .before .before .before .before .before .opened-at .ensures) (c .before .before .before .before .before .before .before .before .mark-of .ensures) (c .before .before .before .before .before .before .before .read-user .ensures)) _ _ _ _ (c .before .before .before .before .before .before .started .ensures)
+
+pub skp-tag-read-user-spec : {M : Type 1} → statement M
+skp-tag-read-user-spec =
+    tie.close
+    (tie.spec
+    opened-at-requires
+    slice-aggregate-started
+    mark-of-requires
+    read-user-requires
+    started-requires
+    same-length
+    same-length-2
+    same-length-3
+    returns)

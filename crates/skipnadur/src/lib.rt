@@ -1,0 +1,3 @@
+// Everything that C calls. Numbers, lent bytes and thin references only.
+pub mod replies;
+pub mod starts;
