@@ -1,37 +1,21 @@
 // Answers cases: reads lines on standard input, each a call with its arguments, and writes one line for each: the call, document
 // 01's number, its values, and the bytes of every lent buffer afterwards. compare/README.md has the lines' form. Cases come from a
 // program, so a number is taken as far as it is digits; a call that is not known is answered by a question mark.
-ghost use Prim.Native.Nat.{_≤_, _<_};
+ghost use Prim.Native.Nat.{_≤_};
 ghost use lib.ListN.{length};
-
-mod builders;
-mod cases;
-mod given;
-mod reading;
-mod said;
-mod words;
-
-use given::generate;
-use given::given;
-use libc::STDIN_FILENO;
-use libc::STDOUT_FILENO;
+use calls::plain;
+use calls::reading;
+use lines::given::generate;
+use lines::given::given;
+use lines::said;
+use lines::stream::fill;
+use lines::stream::flushed;
+use lines::stream::keep;
+use lines::words::find;
+use lines::words::first;
+use lines::words::number;
+use lines::words::second;
 use slices::front;
-use words::find;
-use words::first;
-use words::number;
-use words::second;
-
-// Reads once more, after the `have` bytes that are there, and gives how many are there then.
-fn fill(input: &mut [u8], have: usize) -> usize
-    ensures { λ r. ⌜ r ≤ length (now (input .exit)) ⌝ }
-{
-    if input.len() <= have {
-        return input.len();
-    }
-    let free = &mut input[have..];
-    let got = libc::read(STDIN_FILENO, free);
-    have + io::count(got, free)
-}
 
 // A builder's case: its buffer is the first part of `lent`, as long as the case says and filled from that number.
 fn build(
@@ -41,68 +25,70 @@ fn build(
     lent: &mut [u8],
     kind: &mut [u8],
     text: &mut [u8],
+    call: usize,
 ) -> usize {
     let room = number(second(line));
     if lent.len() < room {
-        return at;
+        return said::text(out, at, b"?");
     }
     let buffer = &mut lent[..room];
     generate(buffer, room, false);
-    let a = builders::open(line, out, at, buffer, kind);
-    if a != at {
-        return a;
-    }
-    builders::build(line, out, at, buffer, kind, text)
+    builds::answer(line, out, at, buffer, kind, text, call)
 }
 
 // A reader's case: the image is the first part of `text`.
 fn read(line: &[u8], out: &mut [u8], at: usize, text: &mut [u8]) -> usize {
-    if check::same(first(line), b"read") {
-        let n = given(second(line), text);
-        return reading::read(line, out, at, front(text, n));
-    }
-    at
+    let n = given(second(line), text);
+    reading::read(line, out, at, front(text, n))
 }
 
-// The answer to one case, at `at`, with its line feed.
+// Room for the bytes that a case gives or lends.
+type Room = [u8; 66000];
+
+// The answer to one case, at `at`, without its line feed.
 fn answer(
     line: &[u8],
     out: &mut [u8],
     at: usize,
-    lent: &mut [u8],
-    kind: &mut [u8],
-    text: &mut [u8],
+    lent: &mut Room,
+    kind: &mut Room,
+    text: &mut Room,
 ) -> usize {
-    let a = cases::length(line, out, at);
-    if a != at {
-        return said::text(out, a, b"\n");
+    let name = first(line);
+    if check::same(name, b"read") {
+        return read(line, out, at, text);
     }
-    let b = cases::leaf(line, out, at, lent);
-    if b != at {
-        return said::text(out, b, b"\n");
+    let builder = builds::build_call(name);
+    if builder != 0 {
+        return build(line, out, at, lent, kind, text, builder);
     }
-    let d = build(line, out, at, lent, kind, text);
-    if d != at {
-        return said::text(out, d, b"\n");
+    let leaf = plain::leaf_call(name);
+    if leaf != 0 {
+        return plain::leaf(line, out, at, lent, leaf);
     }
-    let e = read(line, out, at, text);
-    if e != at {
-        return said::text(out, e, b"\n");
+    let length = plain::length_call(name);
+    if length != 0 {
+        return plain::length(line, out, at, length);
     }
-    said::text(out, at, b"?\n")
+    said::text(out, at, b"?")
 }
 
-// Writes what has been said once it is half a buffer, and gives the place where the next line goes.
-fn flushed(out: &[u8], at: usize, least: usize) -> usize {
-    if at < least {
-        return at;
-    }
-    io::write_all(STDOUT_FILENO, front(out, at));
-    0
+// The answer with its line feed, written out once half a buffer is full; the place where the next one goes.
+fn answered(
+    line: &[u8],
+    out: &mut [u8],
+    at: usize,
+    lent: &mut Room,
+    kind: &mut Room,
+    text: &mut Room,
+) -> usize {
+    let a = answer(line, out, at, lent, kind, text);
+    let end = said::text(out, a, b"\n");
+    flushed(out, end, 131072)
 }
 
 // Answers every whole line of `input`, and gives the place after the last of them.
-fn serve(input: &[u8], out: &mut [u8], lent: &mut [u8], kind: &mut [u8], text: &mut [u8]) -> usize
+fn serve(input: &[u8], out: &mut [u8], lent: &mut Room, kind: &mut Room, text: &mut Room) -> usize
     ensures { λ r. ⌜ r ≤ length (now (input .entry)) ⌝ }
 {
     let mut from = 0;
@@ -113,29 +99,15 @@ fn serve(input: &[u8], out: &mut [u8], lent: &mut [u8], kind: &mut [u8], text: &
         if rest.len() <= n {
             break;
         }
-        at = answer(front(rest, n), out, at, lent, kind, text);
-        at = flushed(out, at, 131072);
+        at = answered(front(rest, n), out, at, lent, kind, text);
         from = from + n + 1;
     }
     flushed(out, at, 0);
     from
 }
 
-// Moves what stands from `from` to `to` to the front.
-fn keep(input: &mut [u8], from: usize, to: usize) -> usize
-    requires { ⌜ (from ≤ to) × (to ≤ length (now input)) ⌝ }
-    ensures { λ r. ⌜ r ≤ length (now (input .exit)) ⌝ }
-{
-    let mut i = 0;
-    while i < to - from {
-        input[i] = input[from + i];
-        i += 1;
-    }
-    i
-}
-
 // One turn for each read; a read that adds nothing ends the run.
-fn run(input: &mut [u8], out: &mut [u8], lent: &mut [u8], kind: &mut [u8], text: &mut [u8]) {
+fn run(input: &mut [u8], out: &mut [u8], lent: &mut Room, kind: &mut Room, text: &mut Room) {
     let mut have = 0;
     let mut turn: u64 = 0;
     while turn < 1_000_000_000_000 {
