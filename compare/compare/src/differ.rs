@@ -1,8 +1,8 @@
 //! Compares the port's answers with the right ones, line by line.
 
 use crate::domain::Who;
-use crate::oracle;
 use crate::progress::Progress;
+use crate::rights::Rights;
 use std::io::{self, BufRead};
 
 /// Longer lines are cut when they are shown.
@@ -28,6 +28,7 @@ pub struct Difference {
 pub fn compare(
     mut cases: impl BufRead,
     mut answers: impl BufRead,
+    mut rights: impl Rights,
     progress: &mut Progress,
 ) -> io::Result<Tally> {
     let mut tally = Tally::default();
@@ -35,7 +36,7 @@ pub fn compare(
     while take_line(&mut cases, &mut case)? {
         tally.cases += 1;
         let question = case.strip_suffix(b"\n").unwrap_or(&case);
-        let who = oracle::answer(question, &mut right);
+        let who = rights.answer(question, &mut right)?;
         match who {
             Who::Original => tally.by_original += 1,
             Who::Document => tally.by_document += 1,
@@ -84,6 +85,17 @@ impl Difference {
         };
         Difference { line, case: cut(case), by, right: cut(right.as_bytes()), port }
     }
+
+    /// Of a program that did not end well.
+    pub fn of_the_whole(status: String) -> Self {
+        Difference {
+            line: 0,
+            case: "(the whole file)".to_string(),
+            by: "the comparison",
+            right: "exit status: 0".to_string(),
+            port: status,
+        }
+    }
 }
 
 fn cut(line: &[u8]) -> String {
@@ -98,9 +110,10 @@ fn cut(line: &[u8]) -> String {
 #[cfg(test)]
 mod tests {
     use super::*;
+    use crate::rights::{Computed, Written};
 
     fn tally(cases: &str, answers: &str) -> Tally {
-        compare(cases.as_bytes(), answers.as_bytes(), &mut Progress::silent()).unwrap()
+        compare(cases.as_bytes(), answers.as_bytes(), Computed, &mut Progress::silent()).unwrap()
     }
 
     #[test]
@@ -119,5 +132,13 @@ mod tests {
         assert_eq!(tally("image_len 1\nimage_len 2\n", "image_len 0 17\n").differences, 1);
         assert_eq!(tally("image_len 1\n", "image_len 0 17").differences, 1);
         assert_eq!(tally("image_len 1\n", "image_len 0 17\nmore\n\n").differences, 2);
+    }
+
+    #[test]
+    fn written_answers_are_compared_too() {
+        let rights = Written::new(&b"R next 1\nD fill\n"[..]);
+        let (cases, answers) = (&b"next\nfill\n"[..], &b"next 1\nfull\n"[..]);
+        let tally = compare(cases, answers, rights, &mut Progress::silent()).unwrap();
+        assert_eq!((tally.by_original, tally.by_document, tally.differences), (1, 1, 1));
     }
 }

@@ -14,6 +14,16 @@ pub enum Who {
     Document,
 }
 
+impl Who {
+    /// As the files of right answers have it.
+    pub fn letter(self) -> char {
+        match self {
+            Who::Original => 'R',
+            Who::Document => 'D',
+        }
+    }
+}
+
 pub fn who(case: &Case) -> Who {
     let original = match case {
         Case::Length(length) => fits(reading::length(length)),

@@ -1,9 +1,10 @@
 //! A run: per group the cases, the port's answers, the comparison.
 
 use crate::differ::{self, Difference};
-use crate::groups::{Cases, Group};
+use crate::groups::{Cases, Group, Program};
 use crate::port;
 use crate::progress::Progress;
+use crate::rights::{Computed, Written};
 use crate::table::{self, Row};
 use std::fs::{self, File};
 use std::io::{self, BufReader, BufWriter, Write};
@@ -11,11 +12,22 @@ use std::path::{Path, PathBuf};
 use std::time::Instant;
 
 pub struct Options {
-    pub answers: PathBuf,
+    /// The port's programs; one that no group needs may be missing.
+    pub answers: Option<PathBuf>,
+    pub transfers: Option<PathBuf>,
     pub dir: PathBuf,
     pub cases: u64,
     pub seed: u64,
     pub groups: Vec<&'static Group>,
+}
+
+impl Options {
+    pub fn program(&self, of: Program) -> Option<&Path> {
+        match of {
+            Program::Answers => self.answers.as_deref(),
+            Program::Transfers => self.transfers.as_deref(),
+        }
+    }
 }
 
 const BUFFER: usize = 1 << 20;
@@ -37,35 +49,46 @@ pub fn run(options: &Options) -> io::Result<bool> {
 
 fn run_group(group: &Group, options: &Options, progress: &mut Progress) -> io::Result<Row> {
     let start = Instant::now();
-    let cases = options.dir.join(format!("{}.cases", group.name));
-    let answers = options.dir.join(format!("{}.answers", group.name));
+    let path = |kind| options.dir.join(format!("{}.{kind}", group.name));
+    let (cases, answers, right) = (path("cases"), path("answers"), path("right"));
     progress.writing(group.name);
-    let count = write_cases(group, options, &cases)?;
+    let count = write_cases(group, options, &cases, &right)?;
     progress.written(count);
-    let status = port::answer(&options.answers, &cases, &answers, progress)
-        .map_err(|why| named(&options.answers, why))?;
-    let mut tally = differ::compare(open(&cases)?, open(&answers)?, progress)?;
+    let program = options.program(group.program).expect("the options name it");
+    let status =
+        port::answer(program, &cases, &answers, progress).map_err(|why| named(program, why))?;
+    let (asked, told) = (open(&cases)?, open(&answers)?);
+    let mut tally = match group.program {
+        Program::Answers => differ::compare(asked, told, Computed, progress)?,
+        Program::Transfers => differ::compare(asked, told, Written::new(open(&right)?), progress)?,
+    };
     if !status.success() {
         tally.differences += 1;
-        tally.first.get_or_insert_with(|| Difference {
-            line: 0,
-            case: "(the whole file)".to_string(),
-            by: "the comparison",
-            right: "exit status: 0".to_string(),
-            port: status.to_string(),
-        });
+        tally.first.get_or_insert_with(|| Difference::of_the_whole(status.to_string()));
     }
     Ok(Row { group: group.name, tally, took: start.elapsed() })
 }
 
-fn write_cases(group: &Group, options: &Options, path: &Path) -> io::Result<u64> {
-    let mut file =
-        BufWriter::with_capacity(BUFFER, File::create(path).map_err(|why| named(path, why))?);
-    let mut cases = Cases::new(&mut file);
+/// The cases, and the right answers beside them where these build on each other.
+fn write_cases(group: &Group, options: &Options, path: &Path, right: &Path) -> io::Result<u64> {
+    let mut file = create(path)?;
+    let mut answers = match group.program {
+        Program::Answers => None,
+        Program::Transfers => Some(create(right)?),
+    };
+    let mut cases = match &mut answers {
+        None => Cases::new(&mut file),
+        Some(answers) => Cases::with_answers(&mut file, answers),
+    };
     group.write(&mut cases, options.cases, options.seed)?;
     let count = cases.count();
     file.flush()?;
+    answers.map_or(Ok(()), |mut answers| answers.flush())?;
     Ok(count)
+}
+
+fn create(path: &Path) -> io::Result<BufWriter<File>> {
+    Ok(BufWriter::with_capacity(BUFFER, File::create(path).map_err(|why| named(path, why))?))
 }
 
 fn open(path: &Path) -> io::Result<BufReader<File>> {

@@ -120,7 +120,7 @@ fn row_sound(stop: usize, p: Chunk, r: Rows) -> bool
         let x = to_come(r.x, row + 16, stop);
         let y = to_come(r.y, row + 32, stop);
         let z = to_come(r.z, row + 48, stop);
-        return (row / 64 == p.at / 64) & (row % 16 == 0) & x & y & z;
+        return (row / 64 == p.at / 64) & (row % Session::ROW == 0) & x & y & z;
     }
     false
 }
@@ -133,7 +133,10 @@ fn scrub_sound(m: usize, rows: usize, s: Scrub) -> bool
         Scrub::Read(p) => (0 < chunk_stop(m, p)) & (rows <= p.at / 16),
         Scrub::Row(p, r) => row_sound(chunk_stop(m, p), p, r) & (rows <= r.row / 16),
         Scrub::Wait(p, r, w) => {
-            row_sound(chunk_stop(m, p), p, r) & (0 < rows) & (rows <= r.row / 16 + 1) & wait_sound(w)
+            row_sound(chunk_stop(m, p), p, r)
+                & (0 < rows)
+                & (rows <= r.row / 16 + 1)
+                & wait_sound(w)
         }
         Scrub::Reread(p) => (0 < rows) & (rows <= chunk_stop(m, p) / 16),
     }

@@ -1,5 +1,6 @@
 // The steps of a session by value: what a call leaves, and what it counts.
 ghost use mathlib.Core.Path.{_≡_};
+ghost use Rattle.slices.specs.Pick.{pick};
 ghost use Rattle.session.specs.Steps.{entered, counted, outOf};
 use crate::session::Now;
 use crate::session::Session;
@@ -26,6 +27,12 @@ pub fn entered(rows: usize, lent: usize, t: Turn) -> Session
     }
 }
 
+fn one(ack: bool) -> usize
+    ensures { λ r. ⌜ r ≡ pick ack 1 0 ⌝ }
+{
+    if ack { 1 } else { 0 }
+}
+
 // 1 for a row write that was acknowledged.
 pub fn counted(a: Ask, ack: bool) -> usize
     ensures { λ r. ⌜ r ≡ counted a ack ⌝ }
@@ -34,20 +41,8 @@ pub fn counted(a: Ask, ack: bool) -> usize
         Ask::Address(_) => 0,
         Ask::Byte(_, _, _) => 0,
         Ask::Password => 0,
-        Ask::Zeros(_) => {
-            if ack {
-                1
-            } else {
-                0
-            }
-        }
-        Ask::Row(_, _, _) => {
-            if ack {
-                1
-            } else {
-                0
-            }
-        }
+        Ask::Zeros(_) => one(ack),
+        Ask::Row(_, _, _) => one(ack),
         Ask::Read(_, _, _) => 0,
         Ask::Delay(_) => 0,
     }

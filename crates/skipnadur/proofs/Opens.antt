@@ -114,9 +114,14 @@ module _ (l : List ℕ) (t r lent out : ℕ) (m : Mark) (rows : ℕ) (st : Stage
       let d : lent ≡ q .lent = eqb-true lent (q .lent) (not-false (eqb lent (q .lent)) (g .1)) in
       let w : out ≡ outOf st = eqb-true out (outOf x) (not-false (eqb out (outOf x)) (f .1)) ∙ ap outOf c in
       let s : _≡_ {A = Session} q (record { mark = m; rows = rows; lent = lent; now = N.Open st }) =
-            λ i. record { mark = a i; rows = b i; lent = sym d i; now = (en ∙ ap N.Open c) i } in
+      λ i. record { mark = a i; rows = b i; lent = sym d i; now = (en ∙ ap N.Open c) i } in
       record {
-        state = el; transfer = long t r (g .0) .0; reply = long t r (g .0) .1; whole = w; sane = sym (ap sound s) ∙ es }
+        state = el;
+        transfer = long t r (g .0) .0;
+        reply = long t r (g .0) .1;
+        whole = w;
+        sane = sym (ap sound s) ∙ es;
+      }
 
   -- by whether the buffers fit the stage that is open
   heard-open : (q : Session) (n : Now) → q .now ≡ n → sound q ≡ true → length l ≡ 20 → heardNow q n t r lent out ≡ H.Goes m rows st

@@ -20,7 +20,17 @@ use turns::steps::stage_ask;
 use turns::steps::stage_step;
 
 // The call goes on from the stage that waited on this reply.
-fn go_on(state: &mut [u8], transfer: &mut [u8], reply: &mut [u8], lent: &[u8], out: &[u8], ack: bool, m: usize, rows: usize, st: Stage) -> u64
+fn go_on(
+    state: &mut [u8],
+    transfer: &mut [u8],
+    reply: &mut [u8],
+    lent: &[u8],
+    out: &[u8],
+    ack: bool,
+    m: usize,
+    rows: usize,
+    st: Stage,
+) -> u64
     requires { ⌜ Going (length (now state)) (length (now transfer)) (length (now reply)) (length (now lent)) (length (now out)) m rows st ⌝ }
     ensures { λ r. ⌜ Leaves (repliedLeft (Goes m rows st) (now (state .entry)) (now (transfer .entry)) (now (reply .entry)) (now (lent .entry)) (now (out .entry)) ack) r (now (state .exit)) (now (transfer .exit)) (now (reply .exit)) ⌝ }
 {
@@ -31,7 +41,14 @@ fn go_on(state: &mut [u8], transfer: &mut [u8], reply: &mut [u8], lent: &[u8], o
 
 // A reply: 0 for refused, any other number for acknowledged.
 #[no_mangle]
-pub extern "C" fn skp_tag_reply(state: &mut [u8], transfer: &mut [u8], reply: &mut [u8], lent: &[u8], out: &[u8], ack: u32) -> u64
+pub extern "C" fn skp_tag_reply(
+    state: &mut [u8],
+    transfer: &mut [u8],
+    reply: &mut [u8],
+    lent: &[u8],
+    out: &[u8],
+    ack: u32,
+) -> u64
     ensures { λ r. ⌜ Leaves (replyLeft (now (state .entry)) (now (transfer .entry)) (now (reply .entry)) (now (lent .entry)) (now (out .entry)) ack) r (now (state .exit)) (now (transfer .exit)) (now (reply .exit)) ⌝ }
 {
     let h = heard_at(state, transfer.len(), reply.len(), lent.len(), out.len());
@@ -43,7 +60,13 @@ pub extern "C" fn skp_tag_reply(state: &mut [u8], transfer: &mut [u8], reply: &m
 
 // The open call's transfer once more; nothing else changes.
 #[no_mangle]
-pub extern "C" fn skp_tag_next(state: &[u8], transfer: &mut [u8], reply: &[u8], lent: &[u8], out: &[u8]) -> u64
+pub extern "C" fn skp_tag_next(
+    state: &[u8],
+    transfer: &mut [u8],
+    reply: &[u8],
+    lent: &[u8],
+    out: &[u8],
+) -> u64
     ensures { λ r. ⌜ Leaves (nextLeft (now (state .entry)) (now (transfer .entry)) (now (reply .entry)) (now (lent .entry)) (now (out .entry))) r (now (state .entry)) (now (transfer .exit)) (now (reply .entry)) ⌝ }
 {
     let h = heard_at(state, transfer.len(), reply.len(), lent.len(), out.len());

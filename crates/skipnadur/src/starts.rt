@@ -30,7 +30,14 @@ pub extern "C" fn skp_tag_wait_ready(state: &mut [u8], transfer: &mut [u8], repl
     ensures { λ r. ⌜ Leaves (startLeft call.waitReady (now (state .entry)) (now (transfer .entry)) (now (reply .entry))) r (now (state .exit)) (now (transfer .exit)) (now (reply .exit)) ⌝ }
 {
     let o = opened_at(state, transfer.len(), reply.len());
-    started(state, transfer, reply, &[], o, calls::wait_ready(mark_of(o)))
+    started(
+        state,
+        transfer,
+        reply,
+        &[],
+        o,
+        calls::wait_ready(mark_of(o)),
+    )
 }
 
 #[no_mangle]
@@ -91,25 +98,63 @@ pub extern "C" fn skp_tag_finish(state: &mut [u8], transfer: &mut [u8], reply: &
 
 // `out` is lent for its length alone: the host puts the bytes into it.
 #[no_mangle]
-pub extern "C" fn skp_tag_read_user(state: &mut [u8], transfer: &mut [u8], reply: &mut [u8], at: usize, out: &[u8]) -> u64
+pub extern "C" fn skp_tag_read_user(
+    state: &mut [u8],
+    transfer: &mut [u8],
+    reply: &mut [u8],
+    at: usize,
+    out: &[u8],
+) -> u64
     ensures { λ r. ⌜ Leaves (startLeft (call.readUser at (length (now (out .entry)))) (now (state .entry)) (now (transfer .entry)) (now (reply .entry))) r (now (state .exit)) (now (transfer .exit)) (now (reply .exit)) ⌝ }
 {
     let o = opened_at(state, transfer.len(), reply.len());
-    started(state, transfer, reply, &[], o, calls::read_user(mark_of(o), at, out.len()))
+    started(
+        state,
+        transfer,
+        reply,
+        &[],
+        o,
+        calls::read_user(mark_of(o), at, out.len()),
+    )
 }
 
 #[no_mangle]
-pub extern "C" fn skp_tag_write(state: &mut [u8], transfer: &mut [u8], reply: &mut [u8], at: usize, lent: &[u8]) -> u64
+pub extern "C" fn skp_tag_write(
+    state: &mut [u8],
+    transfer: &mut [u8],
+    reply: &mut [u8],
+    at: usize,
+    lent: &[u8],
+) -> u64
     ensures { λ r. ⌜ Leaves (startLeft (call.write at (now (lent .entry))) (now (state .entry)) (now (transfer .entry)) (now (reply .entry))) r (now (state .exit)) (now (transfer .exit)) (now (reply .exit)) ⌝ }
 {
     let o = opened_at(state, transfer.len(), reply.len());
-    started(state, transfer, reply, lent, o, calls::write(mark_of(o), at, lent))
+    started(
+        state,
+        transfer,
+        reply,
+        lent,
+        o,
+        calls::write(mark_of(o), at, lent),
+    )
 }
 
 #[no_mangle]
-pub extern "C" fn skp_tag_read_whole(state: &mut [u8], transfer: &mut [u8], reply: &mut [u8], out: &[u8]) -> u64
+pub extern "C" fn skp_tag_read_whole(
+    state: &mut [u8],
+    transfer: &mut [u8],
+    reply: &mut [u8],
+    out: &[u8],
+) -> u64
     ensures { λ r. ⌜ Leaves (startLeft (call.readWhole (length (now (out .entry)))) (now (state .entry)) (now (transfer .entry)) (now (reply .entry))) r (now (state .exit)) (now (transfer .exit)) (now (reply .exit)) ⌝ }
 {
     let o = opened_at(state, transfer.len(), reply.len());
-    started(state, transfer, reply, &[], o, calls::read_whole(mark_of(o), out.len()))
+    started(
+        state,
+        transfer,
+        reply,
+        &[],
+        o,
+        calls::read_whole(mark_of(o), out.len()),
+    )
 }

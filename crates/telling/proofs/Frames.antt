@@ -29,8 +29,8 @@ unfolding splice
 row-framed at piece h =
     let d : List ℕ = at / 256 % 256 ∷ at % 256 ∷ replicate 17 0 in
     let e : drop (2 + length piece) d ≡ replicate (19 - suc (suc (length piece))) 0 =
-          ap (λ (k : ℕ). drop k d) {x = 2 + length piece} {y = suc (suc (length piece))} (omega arith)
-          ∙ (drop-zeros (length piece) 17 ∙ ap (λ (k : ℕ). replicate k 0) {x = 17 - length piece} {y = 19 - suc (suc (length piece))} (omega arith)) in
+    ap (λ (k : ℕ). drop k d) {x = 2 + length piece} {y = suc (suc (length piece))} (omega arith)
+    ∙ (drop-zeros (length piece) 17 ∙ ap (λ (k : ℕ). replicate k 0) {x = 17 - length piece} {y = 19 - suc (suc (length piece))} (omega arith)) in
     ap (λ (z : List ℕ). at / 256 % 256 ∷ at % 256 ∷ (piece ++ z)) e
 
 -- a part from one place to another, by its length
@@ -100,6 +100,7 @@ pub asked : (lent : List ℕ) (st : Stage) (a : Ask) (out : Bool) (before f afte
     → AskFits (length lent) (stageAsk (length lent) st) → f ≡ padded (sent (meant lent a)) → Wrote before 0 f after next
     → (step : ℕ) → step ≡ askStep out a
     → (step ≡ transferStep (intoOut st) (waitsOn lent st)) × (after ≡ framed lent st before)
-asked lent st a out before f after next ea eo fits ef w step es =
-    ((es ∙ λ i. askStep (eo i) (ea i)) ∙ ask-step (intoOut st) lent (stageAsk (length lent) st) fits,
-     put-frame before f after lent next (stageAsk (length lent) st) fits (ef ∙ ap (λ (x : Ask). padded (sent (meant lent x))) ea) w)
+asked lent st a out before f after next ea eo fits ef w step es = (
+  (es ∙ λ i. askStep (eo i) (ea i)) ∙ ask-step (intoOut st) lent (stageAsk (length lent) st) fits,
+  put-frame before f after lent next (stageAsk (length lent) st) fits (ef ∙ ap (λ (x : Ask). padded (sent (meant lent x))) ea) w,
+)

@@ -92,15 +92,17 @@ framed lent st t = padded (sent (waitsOn lent st)) ++ drop transferLength t
 
 abbrev pub settled : List ℕ → ℕ → Turn → List ℕ → List ℕ → Left
 settled lent rows (Open m st) t r = record {
-    step = transferStep (intoOut st) (waitsOn lent st);
-    state = encode (entered rows (length lent) (Open m st));
-    transfer = framed lent st t;
-    reply = r }
+  step = transferStep (intoOut st) (waitsOn lent st);
+  state = encode (entered rows (length lent) (Open m st));
+  transfer = framed lent st t;
+  reply = r;
+}
 settled lent rows (Over m a) t r = record {
-    step = answerStep (answerNumber a) rows (answerValue a);
-    state = encode (idle m);
-    transfer = replicate transferLength 0 ++ drop transferLength t;
-    reply = replicate replyLength 0 ++ drop replyLength r }
+  step = answerStep (answerNumber a) rows (answerValue a);
+  state = encode (idle m);
+  transfer = replicate transferLength 0 ++ drop transferLength t;
+  reply = replicate replyLength 0 ++ drop replyLength r;
+}
 
 abbrev pub short : ℕ → ℕ → Bool
 short t r = ltb t transferLength || ltb r replyLength

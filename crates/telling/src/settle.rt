@@ -83,7 +83,14 @@ fn answer(rows: usize, a: Answer) -> u64
     step(0, a.number(), rows, wide(a.value()))
 }
 
-pub fn settle(state: &mut [u8], transfer: &mut [u8], reply: &mut [u8], lent: &[u8], rows: usize, t: Turn) -> u64
+pub fn settle(
+    state: &mut [u8],
+    transfer: &mut [u8],
+    reply: &mut [u8],
+    lent: &[u8],
+    rows: usize,
+    t: Turn,
+) -> u64
     requires { ⌜ (length (now state) ≡ 20) × (19 ≤ length (now transfer)) × (64 ≤ length (now reply)) × (rows < 65536) × TurnFits (length (now lent)) t ⌝ }
     ensures { λ r. ⌜ Leaves (settled (now (lent .entry)) rows t (now (transfer .entry)) (now (reply .entry))) r (now (state .exit)) (now (transfer .exit)) (now (reply .exit)) ⌝ }
 {
@@ -98,7 +105,14 @@ pub fn settle(state: &mut [u8], transfer: &mut [u8], reply: &mut [u8], lent: &[u
 }
 
 // A call that was started: what its first turn leaves, or the refusal, which touches nothing.
-pub fn started(state: &mut [u8], transfer: &mut [u8], reply: &mut [u8], lent: &[u8], o: Opened, t: Turn) -> u64
+pub fn started(
+    state: &mut [u8],
+    transfer: &mut [u8],
+    reply: &mut [u8],
+    lent: &[u8],
+    o: Opened,
+    t: Turn,
+) -> u64
     requires { ⌜ StartFits o (length (now state)) (length (now transfer)) (length (now reply)) (length (now lent)) t ⌝ }
     ensures { λ r. ⌜ Leaves (startedLeft o (now (lent .entry)) t (now (state .entry)) (now (transfer .entry)) (now (reply .entry))) r (now (state .exit)) (now (transfer .exit)) (now (reply .exit)) ⌝ }
 {

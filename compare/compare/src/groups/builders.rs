@@ -2,16 +2,17 @@
 
 use super::builder_line::{Job, BUILDERS};
 use super::table_3_7::ILL_FORMED;
-use super::{builders_fixed, builders_random, Cases, Group};
+use super::{builders_fixed, builders_random, Cases, Group, Program};
 use crate::bytes::Hex;
 use std::io;
 
 pub const GROUP: Group = Group {
     name: "builders",
+    program: Program::Answers,
     fixed: builders_fixed::fixed,
     sweep,
     random: builders_random::random,
-    share: 50,
+    share: 500,
 };
 
 /// The largest buffer that a case may lend.

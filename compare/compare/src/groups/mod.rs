@@ -15,6 +15,11 @@ mod reading_blocks;
 mod reading_fixed;
 mod reading_random;
 mod reading_records;
+mod session;
+mod session_fixed;
+mod session_random;
+mod session_refusals;
+mod session_retries;
 mod table_3_7;
 mod utf8;
 mod utf8_random;
@@ -23,23 +28,42 @@ use crate::rng::Rng;
 pub use cases::Cases;
 use std::io;
 
+/// The port's program that takes a group's lines.
+#[derive(Copy, Clone, PartialEq, Eq, Debug)]
+pub enum Program {
+    Answers,
+    Transfers,
+}
+
+impl Program {
+    /// The option that names it.
+    pub fn option(self) -> &'static str {
+        match self {
+            Program::Answers => "--answers",
+            Program::Transfers => "--transfers",
+        }
+    }
+}
+
 pub struct Group {
     pub name: &'static str,
+    pub program: Program,
     pub fixed: fn(&mut Cases) -> io::Result<()>,
     pub sweep: fn(&mut Cases) -> io::Result<()>,
     pub random: fn(&mut Cases, &mut Rng) -> io::Result<()>,
-    /// How many of a hundred random cases the group draws: those with long
+    /// How many of a thousand random cases the group draws: those with long
     /// lines draw fewer.
     pub share: u64,
 }
 
-pub static GROUPS: [Group; 6] = [
+pub static GROUPS: [Group; 7] = [
     lengths::GROUP,
     container::GROUP,
     prefixes::GROUP,
     utf8::GROUP,
     builders::GROUP,
     reading::GROUP,
+    session::GROUP,
 ];
 
 impl Group {
@@ -48,7 +72,7 @@ impl Group {
         (self.fixed)(cases)?;
         (self.sweep)(cases)?;
         let mut rng = Rng::new(seed, self.name);
-        for _ in 0..(u128::from(random) * u128::from(self.share) / 100) as u64 {
+        for _ in 0..(u128::from(random) * u128::from(self.share) / 1_000) as u64 {
             (self.random)(cases, &mut rng)?;
         }
         Ok(())

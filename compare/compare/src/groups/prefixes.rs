@@ -1,10 +1,11 @@
 //! All 256 codes of the prefix table; there is nothing else to ask it.
 
-use super::{Cases, Group};
+use super::{Cases, Group, Program};
 use crate::rng::Rng;
 use std::io;
 
-pub const GROUP: Group = Group { name: "prefixes", fixed, sweep, random, share: 0 };
+pub const GROUP: Group =
+    Group { name: "prefixes", program: Program::Answers, fixed, sweep, random, share: 0 };
 
 fn fixed(cases: &mut Cases) -> io::Result<()> {
     // The table has 36 entries, 0 to 35.

@@ -1,16 +1,19 @@
 //! What a phone may have left: containers, blocks and records, whole and not.
 
 use super::image::{block, EIGHT, HEADS, MESSAGE};
-use super::{reading_blocks, reading_fixed, reading_random, reading_records, Cases, Group};
+use super::{
+    reading_blocks, reading_fixed, reading_random, reading_records, Cases, Group, Program,
+};
 use crate::bytes::Hex;
 use std::io;
 
 pub const GROUP: Group = Group {
     name: "reading",
+    program: Program::Answers,
     fixed: reading_fixed::fixed,
     sweep,
     random: reading_random::random,
-    share: 100,
+    share: 1_000,
 };
 
 fn sweep(cases: &mut Cases) -> io::Result<()> {

@@ -1,0 +1,114 @@
+// What a read asks of the part, and what it does to the registers.
+ghost use mathlib.Core.Path.{_≡_};
+ghost use Rattle.part.specs.Looks.{dynamicAt, systemAt, userLook, systemLook, lookOf, known, looked};
+use part::look::Look;
+use part::registers::Registers;
+use registers::bytes::inside;
+use registers::bytes::place_of;
+use registers::changed::noted;
+
+fn dynamic_at(at: usize) -> Look
+    ensures { λ r. ⌜ r ≡ dynamicAt at ⌝ }
+{
+    if at == 0x2003 {
+        return Look::Dynamic;
+    }
+    if at == 0x2004 {
+        return Look::Session;
+    }
+    if at == 0x2005 {
+        Look::Status
+    } else {
+        Look::Unknown
+    }
+}
+
+fn system_at(at: usize) -> Look
+    ensures { λ r. ⌜ r ≡ systemAt at ⌝ }
+{
+    if at == 0 {
+        return Look::Byte(0);
+    }
+    if at == 3 {
+        return Look::Byte(3);
+    }
+    if at == 14 {
+        Look::Byte(14)
+    } else {
+        Look::Unknown
+    }
+}
+
+fn user_look(at: usize, n: usize) -> Look
+    ensures { λ r. ⌜ r ≡ userLook at n ⌝ }
+{
+    if inside(at, n) {
+        return Look::Memory(at);
+    }
+    if n == 1 {
+        dynamic_at(at)
+    } else {
+        Look::Unknown
+    }
+}
+
+fn system_look(at: usize, n: usize) -> Look
+    ensures { λ r. ⌜ r ≡ systemLook at n ⌝ }
+{
+    if n == 1 {
+        return system_at(at);
+    }
+    if (at == 0x14) & (n == 12) {
+        Look::Identity
+    } else {
+        Look::Unknown
+    }
+}
+
+// What reading n bytes after `head` from the address `dev` asks for.
+pub fn look_of(dev: u8, head: &[u8], n: usize) -> Look
+    ensures { λ r. ⌜ r ≡ lookOf dev (now (head .entry)) n ⌝ }
+{
+    if head.len() != 2 {
+        return Look::Unknown;
+    }
+    let at = place_of(head);
+    if dev == 0x53 {
+        return user_look(at, n);
+    }
+    if dev == 0x57 {
+        system_look(at, n)
+    } else {
+        Look::Unknown
+    }
+}
+
+// Whether it is a read that the part answers.
+pub fn answers(l: Look) -> bool
+    ensures { λ r. ⌜ r ≡ known l ⌝ }
+{
+    match l {
+        Look::Memory(_) => true,
+        Look::Dynamic => true,
+        Look::Session => true,
+        Look::Status => true,
+        Look::Byte(_) => true,
+        Look::Identity => true,
+        Look::Unknown => false,
+    }
+}
+
+// The registers after it: reading the status clears it.
+pub fn seen(l: Look, r: Registers) -> Registers
+    ensures { λ s. ⌜ s ≡ looked l r ⌝ }
+{
+    match l {
+        Look::Memory(_) => r,
+        Look::Dynamic => r,
+        Look::Session => r,
+        Look::Status => noted(r, false),
+        Look::Byte(_) => r,
+        Look::Identity => r,
+        Look::Unknown => r,
+    }
+}

@@ -1,0 +1,77 @@
+use Rattle.transfers.proofs.run.Statement.{statement}
+use Rattle.transfers.proofs.run.Tie as tie
+use mathlib.Core.Path.{_≡_}
+use Prim.Native.Nat.{_-_}
+use lib.ListN.{length}
+use borrow.Author.Needs.{needs}
+
+abbrev Inv-loop : tie.InvT-loop
+Inv-loop input₀ said₀ state₀ transfer₀ reply₀ data₀ out₀ lent₀ have₀ turn₀ input said state transfer reply «data» out lent have turn =
+    (length input ≡ length input₀) × (length said ≡ length said₀)
+
+abbrev μ-loop : tie.MeasureT-loop
+μ-loop input₀ said₀ state₀ transfer₀ reply₀ data₀ out₀ lent₀ have₀ turn₀ input said state transfer reply «data» out lent have turn =
+    1_000_000_000_000 - turn
+
+loop-holds : tie.Need-loop-holds Inv-loop μ-loop
+loop-holds c = search needs
+
+fill-requires : tie.Need-fill-requires Inv-loop μ-loop
+fill-requires c κs = search needs
+
+same-length : tie.Need-same-length Inv-loop μ-loop
+same-length c = search needs
+
+same-length-2 : tie.Need-same-length-2 Inv-loop μ-loop
+same-length-2 c = search needs
+
+returns : tie.Need-returns Inv-loop μ-loop
+returns c = search needs
+
+front-requires : tie.Need-front-requires Inv-loop μ-loop
+front-requires c κs = search needs
+
+serve-requires : tie.Need-serve-requires Inv-loop μ-loop
+serve-requires c κs = search needs
+
+keep-requires : tie.Need-keep-requires Inv-loop μ-loop
+keep-requires c κs = search needs
+
+add-turn : tie.Need-add-turn Inv-loop μ-loop
+add-turn c = search needs
+
+loop-less : tie.Need-loop-less Inv-loop μ-loop
+loop-less c = search needs
+
+loop-again : tie.Need-loop-again Inv-loop μ-loop
+loop-again c = search needs
+
+same-length-3 : tie.Need-same-length-3 Inv-loop μ-loop
+same-length-3 c = search needs
+
+same-length-4 : tie.Need-same-length-4 Inv-loop μ-loop
+same-length-4 c = search needs
+
+returns-2 : tie.Need-returns-2 Inv-loop μ-loop
+returns-2 c = search needs
+
+pub run-spec : {M : Type 1} → statement M
+run-spec =
+    tie.close
+    (tie.spec
+    Inv-loop
+    μ-loop
+    loop-holds
+    fill-requires
+    same-length
+    same-length-2
+    returns
+    front-requires
+    serve-requires
+    keep-requires
+    add-turn
+    loop-less
+    loop-again
+    same-length-3
+    same-length-4
+    returns-2)
