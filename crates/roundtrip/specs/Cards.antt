@@ -23,6 +23,12 @@ use Rattle.walk.specs.Step.{stepOf}
 use Rattle.walk.specs.Walked.{ended, chunked, listing, walkedFrom, walked}
 use Rattle.judging.specs.Judge.{verdict, checks}
 use Rattle.image.specs.Builds.{textVerdict, emptyVerdict}
+use lib.ListN.{replicate}
+use Rattle.protocol.specs.Mark.{wipeEnd, none}
+use Rattle.protocol.specs.Write.{writeUser}
+use Rattle.protocol.specs.Trace.{trace}
+use Rattle.protocol.specs.Cards.{rowSizes, obliging}
+use Rattle.protocol.proofs.Theorems as session
 
 pub record Cards : Type 0 where
   pub card1 : textImage 8184 (0x4D ∷ 0x41 ∷ 0x52 ∷ 0x43 ∷ 0x48 ∷ 0x31 ∷ []) ≡ 0xE2 ∷ 0x40 ∷ 0x00 ∷ 0x01 ∷ 0x00 ∷ 0x00 ∷ 0x03 ∷ 0xFF ∷ 0x03 ∷ 0x0D ∷ 0xD1 ∷ 0x01 ∷ 0x09 ∷ 0x54 ∷ 0x02 ∷ 0x65 ∷ 0x6E ∷ 0x4D ∷ 0x41 ∷ 0x52 ∷ 0x43 ∷ 0x48 ∷ 0x31 ∷ 0xFE ∷ []
@@ -43,6 +49,8 @@ pub record Cards : Type 0 where
   pub card7 : readOf (0xE2 ∷ 0x40 ∷ 0x00 ∷ 0x01 ∷ 0x00 ∷ 0x00 ∷ 0x03 ∷ 0xFF ∷ 0x03 ∷ 0x05 ∷ 0x01 ∷ 0x02 ∷ 0x03 ∷ 0x04 ∷ []) ≡ Truncated
   pub card7·escape : readOf (0xE2 ∷ 0x40 ∷ 0x00 ∷ 0x01 ∷ 0x00 ∷ 0x00 ∷ 0x03 ∷ 0xFF ∷ 0x03 ∷ 0xFF ∷ 0x00 ∷ []) ≡ Truncated
   pub card8 : (readOf (0xE2 ∷ 0x40 ∷ 0x00 ∷ 0x01 ∷ 0x00 ∷ 0x00 ∷ 0x03 ∷ 0xFF ∷ 0x03 ∷ 0x01 ∷ 0x20 ∷ 0xFE ∷ []) ≡ At 10 1) × (walked (0xE2 ∷ 0x40 ∷ 0x00 ∷ 0x01 ∷ 0x00 ∷ 0x00 ∷ 0x03 ∷ 0xFF ∷ 0x03 ∷ 0x01 ∷ 0x20 ∷ 0xFE ∷ []) 10 11 ≡ listing [] chunked)
+  pub card9 : rowSizes (trace (writeUser none 10 (replicate 20 7)) obliging) ≡ 6 ∷ 14 ∷ []
+  pub card10 : wipeEnd 17 ≡ 32
   pub card11 : (recordLen 1 65528 ≡ 65535) × (verdict (checks 65549 8184 1 65528) ≡ Fits)
   pub card11·more : verdict (checks 65549 8184 1 65529) ≡ Not (RecordTooLong 65536)
 
@@ -67,6 +75,8 @@ cards = record {
   card7 = refl;
   card7·escape = refl;
   card8 = (refl, refl);
+  card9 = session.cards .nine;
+  card10 = session.cards .ten;
   card11 = (refl, refl);
   card11·more = refl;
 }
