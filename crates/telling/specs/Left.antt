@@ -10,10 +10,12 @@
 --   openedOf s t r              == whether a call may be started on the state s, with a transfer buffer of t bytes and a reply buffer of r:
 --                                  34, 32, 33 (under 19, under 64)
 --   heardOf s t r lent out      == whether the state s takes a reply with these buffers: 34, 31, 33
+--   waitsOn lent st             == the transfer that st waits on; framed: its bytes over the first 19 of the transfer buffer
 --   startLeft c s t r           == the call c started on the state s: 34, 32, 33, or its first transfer, or its answer
 --   replyLeft s t r lent out ack == a reply given: 34, 31, 33, or the next transfer, or the answer
 --   nextLeft s t r lent out     == the open call's transfer once more: 34, 31, 33, or the transfer, nothing else changed
---   newLeft s n                 == a session made in s: 34 for a wrong length alone
+--   startedLeft, repliedLeft, repeatedLeft == the same three, on what was found open or heard
+--   newState s n, newStep s     == a session made in s: 34 for a wrong length alone
 --   dirtyStep s                 == the mark of the session in s, or 34
 use mathlib.Core.Path.{_≡_}
 use Prim.Native.Nat.{ℕ, _+_}
