@@ -1,5 +1,2 @@
 pub mod Blocks
-pub mod Complete
 pub mod Containers
-pub mod Exactly
-pub mod Sound

@@ -27,8 +27,8 @@ use Rattle.turns.specs.declared.stage.Stage.the-variants as G
 use Rattle.session.specs.declared.session.Now.{Now}
 use Rattle.session.specs.declared.session.Now.the-variants as N
 use Rattle.session.specs.declared.session.Session.{Session}
-use Rattle.state.specs.Flat.{bitOf, waitCode, jobCode, openCode, storeCode, setupCode, switchCode, scrubCode, writeCode, rowPlace, scrubPlace, writePlace, stageTag, stageCode, stagePlace, nowFlat, flatten}
-use Rattle.state.specs.From.{waitFrom, setupFrom, switchFrom, rowsFrom, scrubFrom, writeFrom, nowFrom, sessionFrom}
+use Rattle.numbers.specs.Flat.{bitOf, waitCode, jobCode, openCode, storeCode, setupCode, switchCode, scrubCode, writeCode, rowPlace, scrubPlace, writePlace, stageTag, stageCode, stagePlace, nowFlat, flatten}
+use Rattle.numbers.specs.From.{waitFrom, setupFrom, switchFrom, rowsFrom, scrubFrom, writeFrom, nowFrom, sessionFrom}
 
 bit-back : (b : Bool) → eqb (bitOf b) 1 ≡ b
 bit-back true = refl

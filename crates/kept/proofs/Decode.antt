@@ -14,12 +14,12 @@ use Rattle.session.specs.declared.session.Now.{Now}
 use Rattle.session.specs.declared.session.Now.the-variants as N
 use Rattle.session.specs.declared.session.Session.{Session}
 use Rattle.session.proofs.Unders.{both}
-use Rattle.state.specs.Flat.{nowFlat, flatten}
-use Rattle.state.specs.From.{sessionFrom}
+use Rattle.numbers.specs.Flat.{nowFlat, flatten}
+use Rattle.numbers.specs.From.{sessionFrom}
 use Rattle.state.specs.Bytes.{bytesOf, twoAt, flatOf, encode, sameCode, samePlace, sameFlat, decodeFlat, decodeOf}
-use Rattle.state.specs.declared.flat.Code.{Code}
-use Rattle.state.specs.declared.flat.Place.{Place}
-use Rattle.state.specs.declared.flat.Flat.{Flat}
+use Rattle.numbers.specs.declared.flat.Code.{Code}
+use Rattle.numbers.specs.declared.flat.Place.{Place}
+use Rattle.numbers.specs.declared.flat.Flat.{Flat}
 use Rattle.state.specs.declared.decode.Decoded.{Decoded}
 use Rattle.state.specs.declared.decode.Decoded.the-variants.{State, Nothing}
 use Rattle.kept.specs.Bytes.{Bytes}

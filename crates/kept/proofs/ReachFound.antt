@@ -20,7 +20,7 @@ use Rattle.wipe.specs.declared.scrub.Chunk.{Chunk}
 use Rattle.wipe.specs.declared.scrub.Rows.{Rows}
 use Rattle.wipe.specs.declared.scrub.Scrub.the-variants as C
 use Rattle.wipe.specs.declared.scrub.Scrubbed.the-variants.{More, Not}
-use Rattle.state.specs.Flat.{bitOf}
+use Rattle.numbers.specs.Flat.{bitOf}
 use Rattle.session.proofs.Unders.{both}
 use Rattle.kept.specs.Bytes.{Bytes}
 use Rattle.kept.specs.Left.{Answers}

@@ -22,9 +22,9 @@ use Rattle.session.specs.declared.session.Now.{Now}
 use Rattle.session.specs.declared.session.Now.the-variants as N
 use Rattle.session.specs.declared.session.Session.{Session}
 use Rattle.session.proofs.Unders.{both}
-use Rattle.state.specs.Flat.{bitsOf, placeAt, noPlace, scrubPlace, writePlace, stagePlace, nowFlat, flatten}
-use Rattle.state.specs.declared.flat.Place.{Place}
-use Rattle.state.specs.declared.flat.Flat.{Flat}
+use Rattle.numbers.specs.Flat.{bitsOf, placeAt, noPlace, scrubPlace, writePlace, stagePlace, nowFlat, flatten}
+use Rattle.numbers.specs.declared.flat.Place.{Place}
+use Rattle.numbers.specs.declared.flat.Flat.{Flat}
 use Rattle.kept.proofs.Rows.{count-most}
 use Rattle.kept.proofs.Chunks.{ChunkIn, ScrubIn, stop-inside, scrub-says}
 use Rattle.kept.proofs.Pieces.{PieceIn, WriteIn, write-says}

@@ -35,17 +35,17 @@ use Rattle.layout.proofs.Sizes.{record-is}
 use Rattle.blocks.specs.declared.Message.{Message}
 use Rattle.blocks.specs.declared.Message.the-variants.{At}
 use Rattle.blocks.specs.Read.{readOf, messageFrom}
-use Rattle.blocks.specs.Grammar.{Head, large, Size, one, three, none, Stops}
-use Rattle.blocks.specs.Grammar as grammar
-use Rattle.blocks.proofs.Complete.{head-read, passes-read}
+use Rattle.grammar.specs.Blocks.{Head, large, Size, one, three, none, Stops}
+use Rattle.grammar.specs.Blocks as grammar
+use Rattle.grammar.proofs.BlocksComplete.{head-read, passes-read}
 use Rattle.records.specs.declared.Record.{Record}
 use Rattle.records.specs.declared.Parsed.the-variants as parsed
 use Rattle.records.specs.Parse.{parseOf}
 use Rattle.records.specs.Parts.{partOf, kindOf, idOf, payloadOf, isOf, endOf}
-use Rattle.records.specs.Grammar.{Allowed, headOf, placesOf}
-use Rattle.records.proofs.Complete.{complete, kind-there, id-there, payload-there, bytes-length}
+use Rattle.grammar.specs.Records.{Allowed, headOf, placesOf}
+use Rattle.grammar.proofs.RecordsComplete.{complete, kind-there, id-there, payload-there, bytes-length}
 use Rattle.records.proofs.Parts.{part-inside, part-outside}
-use Rattle.records.proofs.Exactly.{is-exactly}
+use Rattle.grammar.proofs.RecordsExactly.{is-exactly}
 use Rattle.walk.specs.declared.Entry.{Entry}
 use Rattle.walk.specs.declared.Entry.the-variants as entry
 use Rattle.walk.specs.declared.Stepped.{Stepped}

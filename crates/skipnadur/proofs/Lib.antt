@@ -1,4 +1,1 @@
-pub mod Asks
-pub mod Opens
-pub mod Calls
 pub mod Theorems

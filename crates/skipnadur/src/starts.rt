@@ -4,96 +4,77 @@ ghost use mathlib.Core.Path.{_≡_};
 ghost use lib.ListN.{length};
 ghost use Rattle.protocol.specs.Call as call;
 ghost use Rattle.telling.specs.Left.{Leaves, startLeft};
-use telling::opening::mark_of;
-use telling::opening::opened_at;
-use telling::settle::started;
-use turns::calls;
+use calling::Call;
+use entry::starts::start;
 
 #[no_mangle]
 pub extern "C" fn skp_tag_identify(state: &mut [u8], transfer: &mut [u8], reply: &mut [u8]) -> u64
     ensures { λ r. ⌜ Leaves (startLeft call.identify (now (state .entry)) (now (transfer .entry)) (now (reply .entry))) r (now (state .exit)) (now (transfer .exit)) (now (reply .exit)) ⌝ }
 {
-    let o = opened_at(state, transfer.len(), reply.len());
-    started(state, transfer, reply, &[], o, calls::identify(mark_of(o)))
+    start(state, transfer, reply, &[], Call::Identify)
 }
 
 #[no_mangle]
 pub extern "C" fn skp_tag_prepare(state: &mut [u8], transfer: &mut [u8], reply: &mut [u8]) -> u64
     ensures { λ r. ⌜ Leaves (startLeft call.prepare (now (state .entry)) (now (transfer .entry)) (now (reply .entry))) r (now (state .exit)) (now (transfer .exit)) (now (reply .exit)) ⌝ }
 {
-    let o = opened_at(state, transfer.len(), reply.len());
-    started(state, transfer, reply, &[], o, calls::prepare(mark_of(o)))
+    start(state, transfer, reply, &[], Call::Prepare)
 }
 
 #[no_mangle]
 pub extern "C" fn skp_tag_wait_ready(state: &mut [u8], transfer: &mut [u8], reply: &mut [u8]) -> u64
     ensures { λ r. ⌜ Leaves (startLeft call.waitReady (now (state .entry)) (now (transfer .entry)) (now (reply .entry))) r (now (state .exit)) (now (transfer .exit)) (now (reply .exit)) ⌝ }
 {
-    let o = opened_at(state, transfer.len(), reply.len());
-    started(
-        state,
-        transfer,
-        reply,
-        &[],
-        o,
-        calls::wait_ready(mark_of(o)),
-    )
+    start(state, transfer, reply, &[], Call::WaitReady)
 }
 
 #[no_mangle]
 pub extern "C" fn skp_tag_rf_off(state: &mut [u8], transfer: &mut [u8], reply: &mut [u8]) -> u64
     ensures { λ r. ⌜ Leaves (startLeft call.rfOff (now (state .entry)) (now (transfer .entry)) (now (reply .entry))) r (now (state .exit)) (now (transfer .exit)) (now (reply .exit)) ⌝ }
 {
-    let o = opened_at(state, transfer.len(), reply.len());
-    started(state, transfer, reply, &[], o, calls::rf_off(mark_of(o)))
+    start(state, transfer, reply, &[], Call::RfOff)
 }
 
 #[no_mangle]
 pub extern "C" fn skp_tag_rf_on(state: &mut [u8], transfer: &mut [u8], reply: &mut [u8]) -> u64
     ensures { λ r. ⌜ Leaves (startLeft call.rfOn (now (state .entry)) (now (transfer .entry)) (now (reply .entry))) r (now (state .exit)) (now (transfer .exit)) (now (reply .exit)) ⌝ }
 {
-    let o = opened_at(state, transfer.len(), reply.len());
-    started(state, transfer, reply, &[], o, calls::rf_on(mark_of(o)))
+    start(state, transfer, reply, &[], Call::RfOn)
 }
 
 #[no_mangle]
 pub extern "C" fn skp_tag_rf_wrote(state: &mut [u8], transfer: &mut [u8], reply: &mut [u8]) -> u64
     ensures { λ r. ⌜ Leaves (startLeft call.rfWrote (now (state .entry)) (now (transfer .entry)) (now (reply .entry))) r (now (state .exit)) (now (transfer .exit)) (now (reply .exit)) ⌝ }
 {
-    let o = opened_at(state, transfer.len(), reply.len());
-    started(state, transfer, reply, &[], o, calls::rf_wrote(mark_of(o)))
+    start(state, transfer, reply, &[], Call::RfWrote)
 }
 
 #[no_mangle]
 pub extern "C" fn skp_tag_scrub(state: &mut [u8], transfer: &mut [u8], reply: &mut [u8]) -> u64
     ensures { λ r. ⌜ Leaves (startLeft call.scrub (now (state .entry)) (now (transfer .entry)) (now (reply .entry))) r (now (state .exit)) (now (transfer .exit)) (now (reply .exit)) ⌝ }
 {
-    let o = opened_at(state, transfer.len(), reply.len());
-    started(state, transfer, reply, &[], o, calls::scrub(mark_of(o)))
+    start(state, transfer, reply, &[], Call::Scrub)
 }
 
 #[no_mangle]
 pub extern "C" fn skp_tag_begin(state: &mut [u8], transfer: &mut [u8], reply: &mut [u8]) -> u64
     ensures { λ r. ⌜ Leaves (startLeft call.begin (now (state .entry)) (now (transfer .entry)) (now (reply .entry))) r (now (state .exit)) (now (transfer .exit)) (now (reply .exit)) ⌝ }
 {
-    let o = opened_at(state, transfer.len(), reply.len());
-    started(state, transfer, reply, &[], o, calls::begin(mark_of(o)))
+    start(state, transfer, reply, &[], Call::Begin)
 }
 
 #[no_mangle]
 pub extern "C" fn skp_tag_go_live(state: &mut [u8], transfer: &mut [u8], reply: &mut [u8]) -> u64
     ensures { λ r. ⌜ Leaves (startLeft call.goLive (now (state .entry)) (now (transfer .entry)) (now (reply .entry))) r (now (state .exit)) (now (transfer .exit)) (now (reply .exit)) ⌝ }
 {
-    let o = opened_at(state, transfer.len(), reply.len());
-    started(state, transfer, reply, &[], o, calls::go_live(mark_of(o)))
+    start(state, transfer, reply, &[], Call::GoLive)
 }
 
 #[no_mangle]
 pub extern "C" fn skp_tag_finish(state: &mut [u8], transfer: &mut [u8], reply: &mut [u8]) -> u64
     ensures { λ r. ⌜ Leaves (startLeft call.finish (now (state .entry)) (now (transfer .entry)) (now (reply .entry))) r (now (state .exit)) (now (transfer .exit)) (now (reply .exit)) ⌝ }
 {
-    let o = opened_at(state, transfer.len(), reply.len());
-    started(state, transfer, reply, &[], o, calls::finish(mark_of(o)))
+    start(state, transfer, reply, &[], Call::Finish)
 }
 
 // `out` is lent for its length alone: the host puts the bytes into it.
@@ -107,15 +88,7 @@ pub extern "C" fn skp_tag_read_user(
 ) -> u64
     ensures { λ r. ⌜ Leaves (startLeft (call.readUser at (length (now (out .entry)))) (now (state .entry)) (now (transfer .entry)) (now (reply .entry))) r (now (state .exit)) (now (transfer .exit)) (now (reply .exit)) ⌝ }
 {
-    let o = opened_at(state, transfer.len(), reply.len());
-    started(
-        state,
-        transfer,
-        reply,
-        &[],
-        o,
-        calls::read_user(mark_of(o), at, out.len()),
-    )
+    start(state, transfer, reply, &[], Call::ReadUser(at, out.len()))
 }
 
 #[no_mangle]
@@ -128,15 +101,7 @@ pub extern "C" fn skp_tag_write(
 ) -> u64
     ensures { λ r. ⌜ Leaves (startLeft (call.write at (now (lent .entry))) (now (state .entry)) (now (transfer .entry)) (now (reply .entry))) r (now (state .exit)) (now (transfer .exit)) (now (reply .exit)) ⌝ }
 {
-    let o = opened_at(state, transfer.len(), reply.len());
-    started(
-        state,
-        transfer,
-        reply,
-        lent,
-        o,
-        calls::write(mark_of(o), at, lent),
-    )
+    start(state, transfer, reply, lent, Call::Write(at))
 }
 
 #[no_mangle]
@@ -148,13 +113,5 @@ pub extern "C" fn skp_tag_read_whole(
 ) -> u64
     ensures { λ r. ⌜ Leaves (startLeft (call.readWhole (length (now (out .entry)))) (now (state .entry)) (now (transfer .entry)) (now (reply .entry))) r (now (state .exit)) (now (transfer .exit)) (now (reply .exit)) ⌝ }
 {
-    let o = opened_at(state, transfer.len(), reply.len());
-    started(
-        state,
-        transfer,
-        reply,
-        &[],
-        o,
-        calls::read_whole(mark_of(o), out.len()),
-    )
+    start(state, transfer, reply, &[], Call::ReadWhole(out.len()))
 }

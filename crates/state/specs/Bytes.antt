@@ -15,11 +15,11 @@ use lib.ListN.{length, getD}
 use Rattle.slices.specs.Pick.{pick}
 use Rattle.session.specs.Sound.{sound}
 use Rattle.session.specs.declared.session.Session.{Session}
-use Rattle.state.specs.Flat.{flatten}
-use Rattle.state.specs.From.{sessionFrom}
-use Rattle.state.specs.declared.flat.Code.{Code}
-use Rattle.state.specs.declared.flat.Place.{Place}
-use Rattle.state.specs.declared.flat.Flat.{Flat}
+use Rattle.numbers.specs.Flat.{flatten}
+use Rattle.numbers.specs.From.{sessionFrom}
+use Rattle.numbers.specs.declared.flat.Code.{Code}
+use Rattle.numbers.specs.declared.flat.Place.{Place}
+use Rattle.numbers.specs.declared.flat.Flat.{Flat}
 use Rattle.state.specs.declared.decode.Decoded.{Decoded}
 use Rattle.state.specs.declared.decode.Decoded.the-variants.{State, Nothing}
 

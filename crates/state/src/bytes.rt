@@ -3,9 +3,9 @@ ghost use mathlib.Core.Path.{_≡_};
 ghost use Prim.Native.Nat.{_+_, _<_};
 ghost use lib.ListN.{length};
 ghost use Rattle.state.specs.Bytes.{bytesOf, twoAt, codeIn, placeIn, flatOf};
-use crate::flat::Code;
-use crate::flat::Flat;
-use crate::flat::Place;
+use numbers::flat::Code;
+use numbers::flat::Flat;
+use numbers::flat::Place;
 
 pub const STATE_LEN: usize = 20;
 

@@ -4,13 +4,13 @@ ghost use Rattle.state.specs.Bytes.{sameCode, samePlace, sameFlat, decod
 use crate::bytes::STATE_LEN;
 use crate::bytes::bytes;
 use crate::bytes::flat_of;
-use crate::flat::Code;
-use crate::flat::Flat;
-use crate::flat::Place;
-use crate::from::session_from;
-use crate::into::flatten;
+use numbers::flat::Code;
+use numbers::flat::Flat;
+use numbers::flat::Place;
+use numbers::from::session_from;
+use numbers::into::flatten;
 use session::session::Session;
-use session::sound::sound;
+use sound::sound;
 
 pub enum Decoded {
     State(Session),

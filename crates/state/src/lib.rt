@@ -1,6 +1,3 @@
 // A session's state in twenty lent bytes.
 pub mod bytes;
 pub mod decode;
-pub mod flat;
-pub mod from;
-pub mod into;

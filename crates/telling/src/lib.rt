@@ -1,5 +1,4 @@
 // What a step of a session leaves in the lent buffers, and the one number that tells the host what to do.
 pub mod frame;
 pub mod opening;
-pub mod settle;
 pub mod step;

@@ -1,0 +1,79 @@
+// A stage: the transfer that it waits on, and where the reply leads.
+ghost use mathlib.Core.Path.{_≡_};
+ghost use Prim.Native.Nat.{_≤_};
+ghost use lib.ListN.{length};
+ghost use Rattle.turns.specs.Turns.{stageAsk, stageStep};
+ghost use Rattle.turns.specs.Able.{Able, gotBy};
+use machine::ask::Ask;
+use machine::switch::Switch;
+use protocol::answer::Answer;
+use setup::setup::identified;
+use turns::stage::Stage;
+use turns::stage::Turn;
+use turns::starts::begin_off_turn;
+use turns::starts::read_turn;
+use turns::starts::status_turn;
+use turns::starts::whole_read_turn;
+use turns::starts::wrote;
+use turns::turns::begin_turn;
+use turns::turns::finish_off_turn;
+use turns::turns::finish_turn;
+use turns::turns::identify_turn;
+use turns::turns::prepare_turn;
+use turns::turns::switch_turn;
+use turns::turns::wait_turn;
+use turns::turns::whole_turn;
+use turns::turns::wipe_turn;
+use turns::turns::write_turn;
+
+// `len` bytes were lent to the call.
+pub fn stage_ask(st: Stage, len: usize) -> Ask
+    requires { ⌜ Able len 8192 st ⌝ }
+    ensures { λ r. ⌜ r ≡ stageAsk len st ⌝ }
+{
+    match st {
+        Stage::Identify => Ask::Read(0x57, 0x0014, 12),
+        Stage::Prepare(s) => s.ask(),
+        Stage::WaitReady(w) => w.ask(),
+        Stage::ReadUser(at, n) => Ask::Read(0x53, at, n),
+        Stage::Write(w) => w.ask(len),
+        Stage::Switching(s) => s.ask(),
+        Stage::RfWrote => Ask::Read(0x53, 0x2005, 1),
+        Stage::WholeOff(s) => s.ask(),
+        Stage::WholeStatus => Ask::Read(0x53, 0x2005, 1),
+        Stage::WholeRead => Ask::Read(0x53, 0, 8192),
+        Stage::Wipe(s) => s.ask(),
+        Stage::BeginSetup(s) => s.ask(),
+        Stage::BeginOff(s) => s.ask(),
+        Stage::LiveStatus => Ask::Read(0x53, 0x2005, 1),
+        Stage::FinishOff(s) => s.ask(),
+        Stage::FinishStatus(_) => Ask::Read(0x53, 0x2005, 1),
+        Stage::FinishWipe(_, s) => s.ask(),
+    }
+}
+
+// The bytes that were read stand in `out` after the read of the whole memory, else in `reply`.
+pub fn stage_step(st: Stage, m: usize, ack: bool, reply: &[u8], lent: &[u8], out: &[u8]) -> Turn
+    requires { ⌜ Able (length (now lent)) (length (now out)) st × (m ≤ 8192) × (64 ≤ length (now reply)) ⌝ }
+    ensures { λ r. ⌜ r ≡ stageStep (now (lent .entry)) m st ack (gotBy st (now (reply .entry)) (now (out .entry))) ⌝ }
+{
+    match st {
+        Stage::Identify => identify_turn(m, identified(ack, reply)),
+        Stage::Prepare(s) => prepare_turn(m, s.step(ack, reply)),
+        Stage::WaitReady(w) => wait_turn(m, w.step(ack)),
+        Stage::ReadUser(_, _) => read_turn(m, ack),
+        Stage::Write(w) => write_turn(m, w.step(ack, reply, lent)),
+        Stage::Switching(s) => switch_turn(m, s.step(ack, reply[0])),
+        Stage::RfWrote => Turn::Over(m, Answer::Wrote(wrote(ack, reply[0]))),
+        Stage::WholeOff(s) => whole_turn(m, s.step(ack, reply[0])),
+        Stage::WholeStatus => Turn::Open(m, Stage::WholeRead),
+        Stage::WholeRead => whole_read_turn(m, ack, out),
+        Stage::Wipe(s) => wipe_turn(m, s.step(ack, reply)),
+        Stage::BeginSetup(s) => begin_turn(m, s.step(ack, reply)),
+        Stage::BeginOff(s) => begin_off_turn(m, s.step(ack, reply[0])),
+        Stage::LiveStatus => Turn::Open(m, Stage::Switching(Switch::new(true))),
+        Stage::FinishOff(s) => finish_off_turn(m, s.step(ack, reply[0])),
+        Stage::FinishStatus(stuck) => status_turn(m, stuck, ack, reply[0]),
+        Stage::FinishWipe(stuck, s) => finish_turn(m, stuck, s.step(ack, reply)),
+    }
+}
