@@ -1,12 +1,30 @@
 # Skipnadur. 'make demo' shows the product at work, 'make test' is the whole gate.
-.PHONY: demo test compare vectors fmt clean
+.PHONY: demo test lib install bench fuzz compare vectors fmt clean
 
-# LABEL is the text: make demo LABEL=HOXA13
+PREFIX = /usr/local
+
+# LABEL is the text, TRACE=1 shows every transfer: make demo LABEL=HOXA13 TRACE=1
 demo:
-	@tools/demo $(LABEL)
+	@tools/demo $(if $(TRACE),--trace) $(LABEL)
 
 test:
 	@tools/gate
+
+# The archives for C, for this machine; or for another processor: make lib TARGET=thumbv7em-none-eabi
+lib:
+	@tools/lib $(TARGET)
+
+# Header, archive and pkg-config file below PREFIX (and DESTDIR, for packages).
+install:
+	@tools/install "$(PREFIX)" "$(DESTDIR)" $(TARGET)
+
+# The port against the Rust original, in one process.
+bench:
+	@tools/bench
+
+# Every export on hostile inputs between guard pages: S the seed, T seconds: make fuzz T=600 S=7
+fuzz:
+	@tools/fuzz $(if $(T),-t $(T)) $(if $(S),-s $(S))
 
 # N cases for the random parts, S the seed, GROUPS a comma list: make compare N=5000000
 compare:

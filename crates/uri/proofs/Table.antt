@@ -11,7 +11,7 @@ use Rattle.uri.specs.declared.Found.{Found}
 use Rattle.uri.specs.Prefixes.{prefixes, entry, prefixAnswer}
 
 -- an element of a list of images is the image of the element
-map-at : {A B : Type 0} (f : A → B) (l : List A) (n : ℕ) (d : A) (e : B) → n < length l → getD (map f l) n e ≡ f (getD l n d)
+pub map-at : {A B : Type 0} (f : A → B) (l : List A) (n : ℕ) (d : A) (e : B) → n < length l → getD (map f l) n e ≡ f (getD l n d)
 map-at f [] n d e h = absurd (not-suc-le-zero h)
 map-at f (x ∷ l) zero d e h = refl
 map-at f (x ∷ l) (suc n) d e h = map-at f l n d e (le-of-suc-le-suc h)

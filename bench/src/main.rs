@@ -1,0 +1,213 @@
+//! The port against the Rust original: the same inputs, one process, the best of many rounds, turn and turn about.
+mod part;
+mod port;
+mod session;
+
+use catcard_nfc::{self as original, tag};
+use std::hint::black_box;
+use std::time::Instant;
+
+const ROUNDS: usize = 200;
+const MIME: &[u8] = original::OCTET_STREAM;
+
+/// The shortest time of one run, in nanoseconds, over runs that take about a millisecond together.
+struct Clock {
+    often: u32,
+    best: f64,
+}
+
+impl Clock {
+    fn new(job: &mut dyn FnMut()) -> Self {
+        let mut often = 1;
+        loop {
+            let start = Instant::now();
+            (0..often).for_each(|_| job());
+            if start.elapsed().as_micros() > 1000 || often > 1 << 24 {
+                return Self { often, best: f64::MAX };
+            }
+            often *= 2;
+        }
+    }
+
+    fn round(&mut self, job: &mut dyn FnMut()) {
+        let start = Instant::now();
+        (0..self.often).for_each(|_| job());
+        self.best = self.best.min(start.elapsed().as_nanos() as f64 / f64::from(self.often));
+    }
+}
+
+/// What comes out must not be worked out beforehand, nor left out.
+fn sink<T>(made: T) {
+    black_box(made);
+}
+
+/// Both sides, turn and turn about.
+fn both(mut rust: impl FnMut(), mut port: impl FnMut()) -> (f64, f64) {
+    let (mut a, mut b) = (Clock::new(&mut rust), Clock::new(&mut port));
+    for _ in 0..ROUNDS {
+        a.round(&mut rust);
+        b.round(&mut port);
+    }
+    (a.best, b.best)
+}
+
+fn line(job: &str, goal: &str, (rust, port): (f64, f64)) {
+    println!("| {job} | {rust:.1} | {port:.1} | {:.2} | {goal} |", port / rust);
+}
+
+fn building() {
+    let text = black_box("MARCHF1-9");
+    let (mut a, mut b, mut values) = ([0u8; 64], [0u8; 64], [0u64; 2]);
+    let times = both(
+        || {
+            let text = black_box(text);
+            core::str::from_utf8(text.as_bytes()).unwrap();
+            black_box(original::text_image(black_box(&mut a), 8184, text)).unwrap();
+        },
+        || {
+            let text = black_box(text);
+            unsafe { port::skp_text_image(black_box(b.as_mut_ptr()), 64, 8184, text.as_ptr(), text.len() as u64, values.as_mut_ptr()) };
+        },
+    );
+    assert_eq!(a, b);
+    line("build a 9-byte text image", "1.0", times);
+
+    let payload: Vec<u8> = (0..4096u32).map(|i| (i * 7) as u8).collect();
+    let (mut a, mut b) = (vec![0u8; 4200], vec![0u8; 4200]);
+    let times = both(
+        || {
+            black_box(original::mime_image(black_box(&mut a), 8184, MIME, black_box(&payload))).unwrap();
+        },
+        || {
+            let (p, n) = (black_box(payload.as_ptr()), payload.len() as u64);
+            unsafe { port::skp_mime_image(black_box(b.as_mut_ptr()), 4200, 8184, MIME.as_ptr(), MIME.len() as u64, p, n, values.as_mut_ptr()) };
+        },
+    );
+    assert_eq!(a, b);
+    line("build a 4 KB MIME image", "1.0", times);
+}
+
+/// 8 KB with as many records of seven bytes as fit.
+fn many_records() -> Vec<u8> {
+    let count = (8192 - 8 - 4 - 1) / 7;
+    let mut image = vec![0xE2, 0x40, 0, 1, 0, 0, 3, 0xFF, 3, 0xFF, (count * 7 / 256) as u8, (count * 7 % 256) as u8];
+    for i in 0..count {
+        image.extend([if i + 1 == count { 0x51 } else { 0x11 }, 1, 3, b'T', 2, b'e', b'n']);
+    }
+    image.push(0xFE);
+    image.resize(8192, 0);
+    image
+}
+
+fn walk_original(image: &[u8]) -> usize {
+    original::read(image).unwrap().map(|r| r.unwrap()).map(|r| r.kind.len() + r.payload.len()).sum()
+}
+
+fn walk_port(image: &[u8]) -> usize {
+    let (mut cursor, mut record, mut sum) = (port::Cursor::default(), port::Record::default(), 0);
+    let (p, n) = (image.as_ptr(), image.len() as u64);
+    unsafe {
+        port::skp_read(p, n, &mut cursor);
+        while port::skp_next(p, n, &mut cursor, &mut record) == 0 {
+            sum += record.kind_len + record.payload_len;
+        }
+    }
+    sum as usize
+}
+
+/// An image whose one text fills 8 KB: words of several scripts, as labels have them.
+fn long_text() -> Vec<u8> {
+    let words = "MARCH1 and HOXA13, þorskur og ýsa, Прогулка, 遺伝子, 🧬 genes; ";
+    let mut text = words.repeat(8160 / words.len());
+    while text.len() < 8160 {
+        text.push('x');
+    }
+    let mut image = vec![0; 8192];
+    original::text_image(&mut image, 8184, &text).unwrap();
+    image
+}
+
+fn reading() {
+    let image = many_records();
+    assert_eq!(walk_original(&image), walk_port(&image));
+    let times = both(
+        || sink(walk_original(black_box(&image))),
+        || sink(walk_port(black_box(&image))),
+    );
+    line("read and walk 8 KB of 1,168 records", "1.0", times);
+
+    let image = long_text();
+    let record = original::read(&image).unwrap().next().unwrap().unwrap();
+    let (mut cursor, mut places, mut part) = (port::Cursor::default(), port::Record::default(), [0u64; 2]);
+    unsafe {
+        port::skp_read(image.as_ptr(), 8192, &mut cursor);
+        assert_eq!(port::skp_next(image.as_ptr(), 8192, &mut cursor, &mut places), 0);
+        assert_eq!(port::skp_text(image.as_ptr(), 8192, &places, part.as_mut_ptr()), 1);
+    }
+    assert_eq!(record.text().unwrap().len() as u64, part[1]);
+    let times = both(
+        || sink(black_box(&record).text()),
+        || sink(unsafe { port::skp_text(black_box(image.as_ptr()), 8192, &places, part.as_mut_ptr()) }),
+    );
+    line("UTF-8 over 8 KB of mixed text", "1.0", times);
+}
+
+fn marks() {
+    for (name, end) in [("empty", 0), ("half full", 4096), ("full", 8192)] {
+        let mut image = vec![0u8; 8192];
+        image[..end].fill(0x41);
+        assert_eq!(tag::high_water(&image) as u64, unsafe { port::skp_high_water(image.as_ptr(), 8192) });
+        let times = both(
+            || sink(tag::high_water(black_box(&image))),
+            || sink(unsafe { port::skp_high_water(black_box(image.as_ptr()), 8192) }),
+        );
+        line(&format!("`high_water`, 8 KB {name}"), "far below 1", times);
+    }
+}
+
+/// A whole session and the wipe's scan. The part's own share, the same transfers with nobody to decide on them, is taken off both.
+fn sessions() {
+    let (mut label, mut partner) = (vec![0; 24], vec![0; 25]);
+    original::text_image(&mut label, 8184, "MARCH1").unwrap();
+    original::text_image(&mut partner, 8184, "HLA-DRA").unwrap();
+    let story = session::Story { litter: vec![(0, 520), (2600, 240), (6992, 108)], label, partner };
+    let (mut a, mut b, mut c) = (vec![0; 8192], vec![0; 8192], vec![0; 8192]);
+
+    let mut part = story.part();
+    part.heard = Some(Vec::new());
+    let mut host = session::Host::new(story.part());
+    host.part.heard = Some(Vec::new());
+    part = session::original(&story, part, &mut a);
+    session::port(&story, &mut host, &mut b);
+    let heard = part.heard.take().unwrap();
+    assert!(a == b && Some(&heard) == host.part.heard.as_ref() && part.memory == host.part.memory);
+    host.part.heard = None;
+
+    let mut rust = Some(part);
+    let whole = both(
+        || rust = Some(session::original(&story, rust.take().unwrap(), &mut a)),
+        || session::port(&story, &mut host, &mut b),
+    );
+    let mut part = story.part();
+    let (bare, _) = both(|| session::bare(&mut part, &heard, &mut c), || {});
+    let steps = heard.len() as f64;
+    line(&format!("a whole session, {steps} transfers, with the part's share"), "1.5", whole);
+    line("one step of it, the part's share taken off", "1.5", ((whole.0 - bare) / steps, (whole.1 - bare) / steps));
+
+    let mut clean = Some(part::Part::new());
+    let mut host = session::Host::new(part::Part::new());
+    let scan = both(|| clean = Some(session::scan_original(clean.take().unwrap())), || session::scan_port(&mut host));
+    let reads: Vec<_> = (0..128u16).map(|i| (0x53, (i * 64).to_be_bytes().to_vec(), 64)).collect();
+    let mut part = part::Part::new();
+    let (bare, _) = both(|| session::bare(&mut part, &reads, &mut c), || {});
+    line("the wipe's scan of a clean tile, 128 reads, with the part's share", "far below 1", scan);
+    line("one read of it, the part's share taken off", "far below 1", ((scan.0 - bare) / 128.0, (scan.1 - bare) / 128.0));
+}
+
+fn main() {
+    println!("| job | Rust, ns | port, ns | ratio | goal |\n|---|---|---|---|---|");
+    building();
+    reading();
+    marks();
+    sessions();
+}

@@ -1,0 +1,4 @@
+pub mod Builds
+pub mod Places
+pub mod Reading
+pub mod Says

@@ -1,0 +1,38 @@
+use borrow.Author.Needs.{needs}
+use Rattle.tile.proofs.skp_tile_phone.Statement.{statement}
+use Rattle.tile.proofs.skp_tile_phone.Tie as tie
+use denote.Ref.{now}
+use mathlib.Core.Path.{refl}
+use Prim.Native.Nat.{ℕ}
+use mathlib.Core.List.{List}
+use lib.ListN.{length}
+use Rattle.part.specs.declared.registers.Registers.{Registers}
+use Rattle.simulated.specs.Simulated.{phoned, memoryPhoned}
+use Rattle.tile.specs.Tile.{tileOf}
+use Rattle.tile.proofs.Through.{through}
+
+registers-of-requires : tie.Need-registers-of-requires
+registers-of-requires c κs = search needs
+
+phone-requires : tie.Need-phone-requires
+phone-requires c κs = search needs
+
+tile-of-requires : tie.Need-tile-of-requires
+tile-of-requires c κs = search needs
+
+same-length : tie.Need-same-length
+same-length c = search needs
+
+returns : tie.Need-returns
+returns c =
+    let a = c .before .before .before .before .before .before .before .before .before .args in
+    let e = c .before .before .before .before .before .registers-of .ensures in
+    let w = c .before .before .before .phone .ensures in
+    let t = now (a .tile) in (
+      through tileOf (λ (r : Registers). phoned (a .at) (length (now (a .bytes))) (now (a .memory)) r) t e (w .0) (c .tile-of .ensures),
+      through (λ (x : List ℕ). x) (λ (r : Registers). memoryPhoned (a .at) (now (a .bytes)) (now (a .memory)) r) t e (w .1) refl,
+    )
+
+pub skp-tile-phone-spec : {M : Type 1} → statement M
+skp-tile-phone-spec =
+    tie.close (tie.spec registers-of-requires phone-requires tile-of-requires same-length returns)
