@@ -109,12 +109,11 @@ fn next_row(p: Chunk, row: usize, x: bool, y: bool, z: bool) -> Scrub
             },
         );
     }
-    let third = second + 16;
     if z {
         return Scrub::Row(
             p,
             Rows {
-                row: third,
+                row: second + 16,
                 x: false,
                 y: false,
                 z: false,
