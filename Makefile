@@ -1,5 +1,5 @@
 # Skipnadur. 'make demo' shows the product at work, 'make test' is the whole gate.
-.PHONY: demo test lib install bench fuzz compare vectors fmt clean
+.PHONY: demo test cuts lib install bench fuzz compare vectors fmt clean
 
 PREFIX = /usr/local
 
@@ -9,6 +9,10 @@ demo:
 
 test:
 	@tools/gate
+
+# Power cuts after every step of a full wipe and of days in the museum, each recovered: make cuts S=7
+cuts:
+	@tools/cuts $(S)
 
 # The archives for C, for this machine; or for another processor: make lib TARGET=thumbv7em-none-eabi
 lib:

@@ -12,12 +12,13 @@ use Rattle.protocol.specs.Setup.{prepare}
 use Rattle.protocol.specs.Rf.{rfOff}
 use Rattle.protocol.specs.Call.{Call}
 use Rattle.protocol.specs.Call as call
-use Rattle.protocol.specs.Calls.{begin, plain, callOf}
+use Rattle.protocol.specs.Calls.{begin, plain}
 use Rattle.protocol.specs.Trace.{nothing}
 use Rattle.protocol.specs.declared.answer.Answer.the-variants.{Done}
 use Rattle.protocol.proofs.Runs as runs
 use Rattle.part.specs.Part.{Part}
-use Rattle.nothing_left.specs.Runs.{Moments, replies, partOf, run, Empty, Clean}
+use Rattle.nothing_left.specs.Trees.{treeOf}
+use Rattle.nothing_left.specs.Runs.{Moments, replies, partOf, runBy, run, Empty, Clean}
 use Rattle.nothing_left.proofs.Always.{Phone, always, phones-run, always-done, always-bind, always-mono}
 use Rattle.nothing_left.proofs.Steps.{phone-timeless}
 use Rattle.nothing_left.proofs.Worlds.{Off, off-stable, off-world}
@@ -68,15 +69,15 @@ begins c g o μ R p i z =
     (λ x₁ N k₁ w u₁. cleaned-wipe whole x₁ N k₁ (emptied whole M N l (covered-whole M l) w) u₁) x k u) q j y)) c g o p i z)
 
 -- what always holds at the end of a call, as its host sees it
-pub clean-run : (c : Call) (m : Mark) (p : Part) → always Phone (callOf c m) (λ a n S x. Cleaned Done a n x) m [] p → (w : Moments) → Clean (run c m p w)
-unfolding run
+pub clean-run : (c : Call) (m : Mark) (p : Part) → always Phone (treeOf c m) (λ a n S x. Cleaned Done a n x) m [] p → (w : Moments) → Clean (run c m p w)
+unfolding runBy
 clean-run c m p h w =
-    let k = phones-run (callOf c m) (λ a n S x. Cleaned Done a n x) m [] p w h in
-    let e = runs.seen (callOf c m) m nothing (replies (callOf c m) p w) in
+    let k = phones-run (treeOf c m) (λ a n S x. Cleaned Done a n x) m [] p w h in
+    let e = runs.seen (treeOf c m) m nothing (replies (treeOf c m) p w) in
     record {
       answer = ap (λ x. x .answer) e ∙ k .answer;
       mark = ap (λ x. x .mark) e ∙ k .mark;
-      silent = ne-eqb (partOf (callOf c m) p w .registers .rf) 0 (λ z. omega (arith, k .off .off));
+      silent = ne-eqb (partOf (treeOf c m) p w .registers .rf) 0 (λ z. omega (arith, k .off .off));
       empty = k .empty;
       idle = k .idle;
     }

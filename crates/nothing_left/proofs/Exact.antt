@@ -15,13 +15,14 @@ use Rattle.protocol.specs.Mark.{Mark, none, wipeEnd}
 use Rattle.protocol.specs.Proc.{done}
 use Rattle.protocol.specs.Call.{scrub}
 use Rattle.protocol.specs.Scrub as s
-use Rattle.protocol.specs.Calls.{callOf, plain}
+use Rattle.protocol.specs.Calls.{plain}
 use Rattle.protocol.specs.Trace.{Exchange, trace, rowsIn, nothing}
 use Rattle.protocol.specs.declared.answer.Answer.{Answer}
 use Rattle.protocol.specs.declared.answer.Answer.the-variants.{Done}
 use Rattle.protocol.proofs.Runs as runs
 use Rattle.part.specs.Part.{Part, rfOn}
-use Rattle.nothing_left.specs.Runs.{Moments, replies, run}
+use Rattle.nothing_left.specs.Trees.{treeOf}
+use Rattle.nothing_left.specs.Runs.{Moments, replies, runBy, run}
 use Rattle.nothing_left.specs.Rows.{programmed, nonZeroRows, Exact}
 use Rattle.nothing_left.proofs.Always.{Phone, always, phones-run, always-done, always-bind, onto}
 use Rattle.nothing_left.proofs.Memories.{Wiped}
@@ -55,23 +56,23 @@ abbrev Sweeps : Mark → Part → Answer → Mark → List ℕ → Part → Type
 Sweeps m p a n R x = (a ≡ Done) × Swept m p n R x
 
 pub wipe-exact : (p : Part) → length (p .memory) ≡ 8192 → rfOn (p .registers) ≡ false → p .registers .busy ≡ 0 → (m : Mark) (w : Moments) → Exact m p (run scrub m p w)
-unfolding run
+unfolding runBy
 wipe-exact p size off idle m w =
-    let h : always Phone (callOf scrub m) (Sweeps m p) m [] p =
+    let h : always Phone (treeOf scrub m) (Sweeps m p) m [] p =
     always-bind Phone (s.scrub m) (λ r. done (plain r)) (Sweeps m p) m [] p
     (wipes Phone Mute mute-room (λ a n R x. always Phone (done (plain a)) (Sweeps m p) n R x) m m [] (p .memory) size
     (λ x N i v u. always-done Phone Done (Sweeps m p) none _ x
     (refl, record { mark = refl; rows = refl; wiped = rw (i .memory) v }))
     p (record { off = eqb-false (p .registers .rf) 0 off; memory = refl }) idle) in
-    let k = phones-run (callOf scrub m) (Sweeps m p) m [] p w h in
-    let ρ = replies (callOf scrub m) p w in
-    let e = runs.seen (callOf scrub m) m nothing ρ in
-    let c : programmed (trace (callOf scrub m) ρ) ≡ nonZeroRows (wipeEnd m / 16) 0 (p .memory) = onto-same _ _ (k .1 .rows) in
+    let k = phones-run (treeOf scrub m) (Sweeps m p) m [] p w h in
+    let ρ = replies (treeOf scrub m) p w in
+    let e = runs.seen (treeOf scrub m) m nothing ρ in
+    let c : programmed (trace (treeOf scrub m) ρ) ≡ nonZeroRows (wipeEnd m / 16) 0 (p .memory) = onto-same _ _ (k .1 .rows) in
     record {
       answer = ap (λ x. x .answer) e ∙ k .0;
       mark = ap (λ x. x .mark) e ∙ k .1 .mark;
       rows = c;
-      report = ap (λ x. x .report .rows) e ∙ runs.rows-counted (trace (callOf scrub m) ρ) nothing ∙ zero-add (rowsIn (trace (callOf scrub m) ρ)) ∙ rows-length (trace (callOf scrub m) ρ) ∙ ap length c;
+      report = ap (λ x. x .report .rows) e ∙ runs.rows-counted (trace (treeOf scrub m) ρ) nothing ∙ zero-add (rowsIn (trace (treeOf scrub m) ρ)) ∙ rows-length (trace (treeOf scrub m) ρ) ∙ ap length c;
       below = λ i h. k .1 .wiped .zeros i (omega arith) h;
       above = λ i h. k .1 .wiped .changed .outside i (inr h);
     }

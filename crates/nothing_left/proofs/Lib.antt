@@ -18,4 +18,8 @@ pub mod Closings
 pub mod Ordered
 pub mod Exact
 pub mod Witnesses
+pub mod Opened
+pub mod Earlys
+pub mod Slips
 pub mod Theorems
+pub mod ThrownOut

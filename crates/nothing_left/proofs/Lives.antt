@@ -11,13 +11,13 @@ use borrow.Author.Tests.{eq-eqb}
 use Rattle.slices.proofs.Cases.{pick-cases}
 use Rattle.scan.proofs.Blanks.{and-right}
 use Rattle.protocol.specs.Transfer.{Transfer, write, writeRead, delay}
-use Rattle.protocol.specs.Calls.{callOf}
 use Rattle.protocol.specs.Proc.{Proc, done, ask, mark}
 use Rattle.part.specs.Part.{Part, ThePart, free}
 use Rattle.part.specs.Orders.{orderOf, accepted}
 use Rattle.part.specs.Bus.{replyOf, afterOf}
 use Rattle.part.specs.Power.{visited}
 use Rattle.part.proofs.Stays.{stored-length, stays, stays-visited, stays-cut}
+use Rattle.nothing_left.specs.Trees.{treeOf}
 use Rattle.nothing_left.specs.Runs.{Moments, onwards, begun, partAfter}
 use Rattle.nothing_left.specs.Histories.{Event, calls, phones, cuts, happened, lived, PowerUp, up}
 use Rattle.nothing_left.proofs.Worlds.{Named}
@@ -60,15 +60,15 @@ stays-run (ask t k) n p w i =
     stays-begun n p _ i (λ j. stays-run (k (replyOf t v)) j (afterOf t (w 0 .cycle) v) (onwards w) (stays t (w 0 .cycle) v (stays-visited (w 0 .phone) p i)))
 stays-run (mark m q) n p w i = stays-run q n p w i
 
-stays-event : (e : Event) (p : Part) → ThePart p → ThePart (happened e p)
-stays-event (calls c m n w) p i = stays-run (callOf c m) n p w i
+stays-event : (e : Event) (p : Part) → ThePart p → ThePart (happened treeOf e p)
+stays-event (calls c m n w) p i = stays-run (treeOf c m) n p w i
 stays-event (phones v) p i = stays-visited v p i
 stays-event (cuts l) p i = stays-cut l p i
 
-stays-lived : (es : List Event) (p : Part) → ThePart p → ThePart (lived es p)
+stays-lived : (es : List Event) (p : Part) → ThePart p → ThePart (lived treeOf es p)
 stays-lived [] p i = i
-stays-lived (e ∷ es) p i = stays-lived es (happened e p) (stays-event e p i)
+stays-lived (e ∷ es) p i = stays-lived es (happened treeOf e p) (stays-event e p i)
 
 -- a part at power-up: whole, and no cycle runs
 pub powered-up : (p : Part) → PowerUp p → Intact p × (p .registers .busy ≡ 0)
-powered-up p (up {p = q} t es l) = (intact-part p (stays-cut l (lived es q) (stays-lived es q t)), refl)
+powered-up p (up {p = q} t es l) = (intact-part p (stays-cut l (lived treeOf es q) (stays-lived es q t)), refl)

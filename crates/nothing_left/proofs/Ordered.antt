@@ -16,14 +16,15 @@ use Rattle.protocol.specs.Write as wr
 use Rattle.protocol.specs.Scrub as s
 use Rattle.protocol.specs.Call.{Call, identify, prepare, waitReady, readUser, write, rfOff, rfOn, rfWrote, readWhole, scrub, begin, goLive, finish}
 use Rattle.protocol.specs.Calls as calls
-use Rattle.protocol.specs.Calls.{plain, plainly, callOf}
+use Rattle.protocol.specs.Calls.{plain, plainly}
 use Rattle.protocol.specs.Trace.{nothing}
 use Rattle.protocol.specs.declared.answer.Answer.{Answer}
 use Rattle.protocol.specs.declared.answer.Answer.the-variants.{Done, Wrote}
 use Rattle.protocol.proofs.Runs as runs
 use Rattle.part.specs.Part.{Part}
 use Rattle.part.specs.Power.{visited}
-use Rattle.nothing_left.specs.Runs.{Moments, replies, run, Clean}
+use Rattle.nothing_left.specs.Trees.{treeOf}
+use Rattle.nothing_left.specs.Runs.{Moments, replies, runBy, run, Clean}
 use Rattle.nothing_left.specs.Sessions.{Phase, quiet, live, allowed, later, Session, first, phone, next}
 use Rattle.nothing_left.proofs.Always.{Phone, visit-phone, Still, always, phones-run, always-done, always-bind, always-mono}
 use Rattle.nothing_left.proofs.Worlds.{Off, off-world, Ready, ready-world}
@@ -70,9 +71,9 @@ cleaned-safe good a n x c =
 ended-quiet : (f : Phase) (a : Answer) (n : Mark) (x : Part) → a ≡ Done → Safe Off n x → Holds (later f finish a) n x
 ended-quiet f a n x e s = subst (λ (b : Answer). Holds (later f finish b) n x) (sym e) s
 
-step-finish : (f : Phase) (m : Mark) (p : Part) → Kept m p → always Phone (callOf finish m) (λ a n S x. Holds (later f finish a) n x) m [] p
+step-finish : (f : Phase) (m : Mark) (p : Part) → Kept m p → always Phone (treeOf finish m) (λ a n S x. Holds (later f finish a) n x) m [] p
 step-finish f m p k =
-    always-mono Phone (callOf finish m) (λ a n S x. Cleaned Done a n x) (λ a n S x. Holds (later f finish a) n x)
+    always-mono Phone (treeOf finish m) (λ a n S x. Cleaned Done a n x) (λ a n S x. Holds (later f finish a) n x)
     (λ a n S x c. ended-quiet f a n x (c .answer) (cleaned-safe Done a n x c)) m [] p
     (plainly-clean (calls.finish m) m [] p (finishes m [] p k))
 
@@ -81,14 +82,14 @@ looked-holds : (f : Phase) (k : ℕ) (a : Res Unit) (n : Mark) (S : List ℕ) (x
 looked-holds f k a n S x (whole-read h) = always-done Phone Done (λ b j T y. Holds (later f (readWhole k) b) j y) n S x h
 looked-holds f k a n S x (refused h) = always-done Phone _ (λ b j T y. Holds (later f (readWhole k) b) j y) n S x h
 
-step-read : (f : Phase) (k : ℕ) (m : Mark) (p : Part) → Holds f m p → always Phone (callOf (readWhole k) m) (λ a n S x. Holds (later f (readWhole k) a) n x) m [] p
+step-read : (f : Phase) (k : ℕ) (m : Mark) (p : Part) → Holds f m p → always Phone (treeOf (readWhole k) m) (λ a n S x. Holds (later f (readWhole k) a) n x) m [] p
 step-read f k m p h =
     always-bind Phone (calls.readWhole m k) (λ r. done (plain r)) (λ a n S x. Holds (later f (readWhole k) a) n x) m [] p
     (always-mono Phone (calls.readWhole m k) (λ a n S x. Looked (Holds f) a n x) _
     (λ a n S x l. looked-holds f k a n S x l) m [] p (looks (Holds f) m k [] p (holds-kept f m p h) h))
 
 -- each call in its place
-step : (f : Phase) (m : Mark) (p : Part) (c : Call) → allowed f c ≡ true → Holds f m p → always Phone (callOf c m) (λ a n S x. Holds (later f c a) n x) m [] p
+step : (f : Phase) (m : Mark) (p : Part) (c : Call) → allowed f c ≡ true → Holds f m p → always Phone (treeOf c m) (λ a n S x. Holds (later f c a) n x) m [] p
 step f m p identify e h = same-phase f setup.identify tame-identify m (safe-identify Phone Off off-world m []) (safe-identify Still Ready ready-world m []) p h
 step f m p prepare e h = same-phase f setup.prepare tame-prepare m (safe-prepare Phone Off off-world m []) (safe-prepare Still Ready ready-world m []) p h
 step f m p waitReady e h = same-phase f (w.waitReady readyPolls) (tame-wait readyPolls) m (safe-wait Phone Off off-world m []) (safe-wait Still Ready ready-world m []) p h
@@ -110,19 +111,19 @@ step live m p begin e h = never e
 step live m p goLive e h = never e
 
 -- what always holds at the end of a call, as its host sees it
-ran : (c : Call) (m : Mark) (p : Part) (Q : Answer → Mark → Part → Type 0) → always Phone (callOf c m) (λ a n S x. Q a n x) m [] p → (t : Moments)
+ran : (c : Call) (m : Mark) (p : Part) (Q : Answer → Mark → Part → Type 0) → always Phone (treeOf c m) (λ a n S x. Q a n x) m [] p → (t : Moments)
     → Q (run c m p t .end .answer) (run c m p t .end .mark) (run c m p t .part)
-unfolding run
+unfolding runBy
 ran c m p Q h t =
-    let k = phones-run (callOf c m) (λ a n S x. Q a n x) m [] p t h in
-    let e = runs.seen (callOf c m) m nothing (replies (callOf c m) p t) in
+    let k = phones-run (treeOf c m) (λ a n S x. Q a n x) m [] p t h in
+    let e = runs.seen (treeOf c m) m nothing (replies (treeOf c m) p t) in
     rw e k
 
 pub session-holds : (f : Phase) (m : Mark) (p : Part) → Session f m p → Holds f m p
 session-holds f m p (first {p = q} u t) =
     let i = powered-up q u in
     ran begin whole q (λ a n x. Safe Off n x)
-    (always-mono Phone (callOf begin whole) (λ a n S x. Cleaned Done a n x) (λ a n S x. Safe Off n x) (λ a n S x c. cleaned-safe Done a n x c) whole [] q
+    (always-mono Phone (treeOf begin whole) (λ a n S x. Cleaned Done a n x) (λ a n S x. Safe Off n x) (λ a n S x c. cleaned-safe Done a n x c) whole [] q
     (plainly-clean (calls.begin whole) whole [] q
     (begins (q .registers .cfg) (q .registers .gpo1) (q .registers .session) whole [] q
     (record { cfg = refl; gpo = refl; session = refl; len = i .0 .len; named = i .0 .named }) (i .1)))) t

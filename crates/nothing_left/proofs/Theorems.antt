@@ -8,10 +8,10 @@ use borrow.Author.Tests.{eqb-true}
 use Rattle.protocol.specs.Mark.{Mark, whole}
 use Rattle.protocol.specs.Proc.{done}
 use Rattle.protocol.specs.Call.{Call, begin, finish, scrub}
-use Rattle.protocol.specs.Calls.{callOf}
 use Rattle.protocol.specs.Trace.{rest}
 use Rattle.part.specs.Part.{Part, ThePart, rfOn, free}
 use Rattle.part.proofs.General.{fresh, fresh-is}
+use Rattle.nothing_left.specs.Trees.{treeOf}
 use Rattle.nothing_left.specs.Runs.{Moments, replies, run, Clean}
 use Rattle.nothing_left.specs.Histories.{PowerUp}
 use Rattle.nothing_left.specs.Sessions.{Phase, Session, Covered}
@@ -57,5 +57,5 @@ a-tear = torn-byte
 pub a-phone : Uncovered
 a-phone = uncovered
 
-pub a-run : (c : Call) (m : Mark) (p : Part) (w : Moments) → rest (length (run c m p w .passed)) (callOf c m) (replies (callOf c m) p w) ≡ done (run c m p w .end .answer)
+pub a-run : (c : Call) (m : Mark) (p : Part) (w : Moments) → rest (length (run c m p w .passed)) (treeOf c m) (replies (treeOf c m) p w) ≡ done (run c m p w .end .answer)
 a-run c m p w = run-ends c m p w

@@ -21,7 +21,7 @@ use Rattle.scan.specs.Rows.{rowCount, rowLen}
 use Rattle.slices.specs.Bytes.{splice}
 use Rattle.part.specs.Orders.{orderOf}
 use Rattle.protocol.specs.Calls as calls
-use Rattle.protocol.specs.Calls.{plain, callOf}
+use Rattle.protocol.specs.Calls.{plain}
 use Rattle.protocol.specs.Trace.{rest, nothing}
 use Rattle.protocol.proofs.Runs as runs
 use Rattle.protocol.proofs.Marks.{covers-none}
@@ -30,7 +30,8 @@ use Rattle.part.specs.Looks.{lookOf}
 use Rattle.part.specs.Power.{still, writes, visited, reached, cut}
 use Rattle.part.specs.declared.look.Look.the-variants as look
 use Rattle.part.proofs.General.{fresh, fresh-is}
-use Rattle.nothing_left.specs.Runs.{Moments, replies, run}
+use Rattle.nothing_left.specs.Trees.{treeOf}
+use Rattle.nothing_left.specs.Runs.{Moments, replies, runBy, run}
 use Rattle.nothing_left.specs.Histories.{calls, lived, PowerUp, up}
 use Rattle.nothing_left.specs.Sessions.{live, Session, first, phone, next}
 use Rattle.nothing_left.proofs.Always.{Still, same, always, always-run, always-done, always-bind}
@@ -43,13 +44,13 @@ use Rattle.nothing_left.proofs.Closings.{on-still}
 use Rattle.nothing_left.proofs.Ordered.{session-holds}
 
 -- the call ends: after as many replies as it has exchanges it has answered
-pub run-ends : (c : Call) (m : Mark) (p : Part) (w : Moments) → rest (length (run c m p w .passed)) (callOf c m) (replies (callOf c m) p w) ≡ done (run c m p w .end .answer)
-unfolding run
-run-ends c m p w = runs.ends (callOf c m) (replies (callOf c m) p w) ∙ ap done (sym (ap (λ x. x .answer) (runs.seen (callOf c m) m nothing (replies (callOf c m) p w))))
+pub run-ends : (c : Call) (m : Mark) (p : Part) (w : Moments) → rest (length (run c m p w .passed)) (treeOf c m) (replies (treeOf c m) p w) ≡ done (run c m p w .end .answer)
+unfolding runBy
+run-ends c m p w = runs.ends (treeOf c m) (replies (treeOf c m) p w) ∙ ap done (sym (ap (λ x. x .answer) (runs.seen (treeOf c m) m nothing (replies (treeOf c m) p w))))
 
 -- one byte is written into the fresh part, and the power is cut inside the cycle of that row
 unfoldable pub torn : Part
-torn = cut (record { bytes = 7 ∷ []; old = false }) (lived (calls (write 0 (1 ∷ [])) none 1 (λ n. record { phone = still; cycle = 5 }) ∷ []) fresh)
+torn = cut (record { bytes = 7 ∷ []; old = false }) (lived treeOf (calls (write 0 (1 ∷ [])) none 1 (λ n. record { phone = still; cycle = 5 }) ∷ []) fresh)
 
 pub torn-byte : getD (torn .memory) 0 0 ≡ 7
 unfolding torn fresh writeUser rowCount rowLen orderOf splice
@@ -80,7 +81,7 @@ record Live (m : Mark) (M : List ℕ) (n : Mark) (p : Part) : Type 0 where
   ready : Ready M p
   on : p .registers .rf ≡ 0
 
-live-still : (m : Mark) (M : List ℕ) (p : Part) → Ready M p → p .registers .busy ≡ 0 → always Still (callOf goLive m) (λ a n S x. Live m M n x) m [] p
+live-still : (m : Mark) (M : List ℕ) (p : Part) → Ready M p → p .registers .busy ≡ 0 → always Still (treeOf goLive m) (λ a n S x. Live m M n x) m [] p
 unfolding calls.goLive lookOf
 live-still m M p i z =
     always-bind Still calls.goLive (λ r. done (plain r)) (λ a n S x. Live m M n x) m [] p
@@ -93,12 +94,12 @@ live-still m M p i z =
 
 module _ (m : Mark) (p : Part) (s : Safe Off m p) where
   went-live : Live m (s .memory) (run goLive m p calm .end .mark) (run goLive m p calm .part)
-  unfolding run calm
+  unfolding runBy calm
   went-live =
       let o = s .here in
-      let k = always-run Still (callOf goLive m) (λ a n S x. Live m (s .memory) n x) m [] p calm (λ n x. same)
+      let k = always-run Still (treeOf goLive m) (λ a n S x. Live m (s .memory) n x) m [] p calm (λ n x. same)
       (live-still m (s .memory) p (record { cfg = o .cfg; gpo = o .gpo; named = o .named; memory = o .memory }) (s .idle)) in
-      rw (runs.seen (callOf goLive m) m nothing (replies (callOf goLive m) p calm)) k
+      rw (runs.seen (treeOf goLive m) m nothing (replies (treeOf goLive m) p calm)) k
 
 -- a phone writes its byte
 touched : (m : Mark) (p : Part) → Session live m p → m ≡ none → p .registers .rf ≡ 0 → p .registers .gpo1 ≡ 0x85 → Uncovered

@@ -7,7 +7,8 @@
 --   partAfter n q p w   == the part after n of the transfers of q, or at its end
 --   partOf q p w        == the part at its end
 --   Outcome             == how a call ends: for its host (answer, mark, report), what passed on the bus, and the part
---   run c m p w         == the call c with the mark at m, on the part p
+--   runBy t c m p w     == the call c of the program t with the mark at m, on the part p
+--   run c m p w         == the same of the program that the theorems are about
 --   Empty bs            == 8,192 bytes, each of them zero
 --   Clean o             == Ok, RF off, nothing may be non-zero, all bytes zero, no cycle running
 use mathlib.Core.Path.{_≡_}
@@ -20,12 +21,13 @@ use Rattle.protocol.specs.Tag.{userMemory}
 use Rattle.protocol.specs.Mark.{Mark, none}
 use Rattle.protocol.specs.Proc.{Proc, done, ask, mark}
 use Rattle.protocol.specs.Call.{Call}
-use Rattle.protocol.specs.Calls.{callOf}
 use Rattle.protocol.specs.Trace.{Replies, Exchange, End, trace, talk, endOf, nothing}
 use Rattle.protocol.specs.declared.answer.Answer.the-variants.{Done}
 use Rattle.part.specs.Part.{Part, rfOn}
 use Rattle.part.specs.Bus.{replyOf, afterOf}
 use Rattle.part.specs.Power.{Visit, visited}
+use Rattle.nothing_left.specs.Programs.{Program}
+use Rattle.nothing_left.specs.Trees.{treeOf}
 
 pub record Moment : Type 0 where
   pub phone : Visit
@@ -73,12 +75,15 @@ pub record Outcome : Type 0 where
   pub passed : List Exchange
   pub part : Part
 
-unfoldable pub run : Call → Mark → Part → Moments → Outcome
-run c m p w = record {
-  end = endOf (talk m nothing (callOf c m)) (replies (callOf c m) p w);
-  passed = trace (callOf c m) (replies (callOf c m) p w);
-  part = partOf (callOf c m) p w;
+unfoldable pub runBy : Program → Call → Mark → Part → Moments → Outcome
+runBy t c m p w = record {
+  end = endOf (talk m nothing (t c m)) (replies (t c m) p w);
+  passed = trace (t c m) (replies (t c m) p w);
+  part = partOf (t c m) p w;
 }
+
+abbrev pub run : Call → Mark → Part → Moments → Outcome
+run = runBy treeOf
 
 pub record Empty (bs : List ℕ) : Type 0 where
   pub size : length bs ≡ userMemory

@@ -4,8 +4,9 @@
 --   calm c               == c is not one of `begin`, `go_live`, `rf_wrote`, the calls that a live session may not make
 --   allowed f c          == the call c may come in the phase f
 --   later f c a          == the phase after the call c answered a
---   Session f m p        == a session has come this far: from power-up by `begin` with the mark at the whole part, then calls in this
---                           order and phones between them. The phase is f, the mark m, the part p
+--   SessionBy t f m p    == a session of the program t has come this far: from power-up by `begin` with the mark at the whole part, then
+--                           calls in this order and phones between them. The phase is f, the mark m, the part p
+--   Session f m p        == the same with the calls that the theorems are about
 --   Covered m bs         == every byte that is not zero lies where the mark m says that one may
 use mathlib.Core.Path.{_≡_}
 use mathlib.Core.Bool.{Bool, true, false}
@@ -18,8 +19,10 @@ use Rattle.protocol.specs.declared.answer.Answer.{Answer}
 use Rattle.protocol.specs.declared.answer.Answer.the-variants.{Done, Wrote, Not}
 use Rattle.part.specs.Part.{Part}
 use Rattle.part.specs.Power.{Visit, visited}
-use Rattle.nothing_left.specs.Runs.{Moments, run}
-use Rattle.nothing_left.specs.Histories.{PowerUp}
+use Rattle.nothing_left.specs.Programs.{Program}
+use Rattle.nothing_left.specs.Trees.{treeOf}
+use Rattle.nothing_left.specs.Runs.{Moments, runBy}
+use Rattle.nothing_left.specs.Histories.{PowerUpBy}
 
 pub data Phase : Type 0 where
   quiet live : Phase
@@ -64,11 +67,14 @@ later f begin a = f
 later f goLive a = live
 later f finish a = ended f a
 
-pub data Session : Phase → Mark → Part → Type 0 where
-  first : {p : Part} → PowerUp p → (w : Moments) → Session quiet (run begin whole p w .end .mark) (run begin whole p w .part)
-  phone : {f : Phase} {m : Mark} {p : Part} → Session f m p → (v : Visit) → Session f m (visited v p)
-  next : {f : Phase} {m : Mark} {p : Part} → Session f m p → (c : Call) → allowed f c ≡ true → (w : Moments)
-      → Session (later f c (run c m p w .end .answer)) (run c m p w .end .mark) (run c m p w .part)
+pub data SessionBy (t : Program) : Phase → Mark → Part → Type 0 where
+  first : {p : Part} → PowerUpBy t p → (w : Moments) → SessionBy t quiet (runBy t begin whole p w .end .mark) (runBy t begin whole p w .part)
+  phone : {f : Phase} {m : Mark} {p : Part} → SessionBy t f m p → (v : Visit) → SessionBy t f m (visited v p)
+  next : {f : Phase} {m : Mark} {p : Part} → SessionBy t f m p → (c : Call) → allowed f c ≡ true → (w : Moments)
+      → SessionBy t (later f c (runBy t c m p w .end .answer)) (runBy t c m p w .end .mark) (runBy t c m p w .part)
+
+abbrev pub Session : Phase → Mark → Part → Type 0
+Session = SessionBy treeOf
 
 unfoldable pub Covered : Mark → List ℕ → Type 0
 Covered m bs = (i : ℕ) → (getD bs i 0 ≡ 0 → ⊥) → covers m i

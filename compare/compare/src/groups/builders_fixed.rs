@@ -13,6 +13,7 @@ pub fn fixed(cases: &mut Cases) -> io::Result<()> {
     not_utf8(cases)?;
     type_names(cases)?;
     announced(cases)?;
+    published(cases)?;
     for at in [0, 1, 9, 10, 11, 12, u64::MAX - 1, u64::MAX] {
         cases.add(format_args!("finish 11 {at}"))?;
     }
@@ -37,6 +38,13 @@ fn cards(cases: &mut Cases) -> io::Result<()> {
         job.add(cases, job.needed() - 1)?;
     }
     Ok(())
+}
+
+/// The records of the NFC Forum's worked examples, built: URI RTD 1.0, appendix A, and a text of the Text RTD.
+fn published(cases: &mut Cases) -> io::Result<()> {
+    cases.add(format_args!("uri_image 32 8184 1 6e66632e636f6d"))?;
+    cases.add(format_args!("uri_image 32 8184 5 2b3335383931323334353637"))?;
+    cases.add(format_args!("text_image 32 8184 48656c6c6f2c20776f726c6421"))
 }
 
 /// Payload lengths where a length takes another form, for every builder.

@@ -14,9 +14,34 @@ pub fn fixed(cases: &mut Cases) -> io::Result<()> {
     records(cases)?;
     texts(cases)?;
     uris(cases)?;
+    published(cases)?;
+    differences(cases)?;
     cases.add(format_args!("read -"))?;
     cases.add(format_args!("read @8192:1"))?;
     cases.add(format_args!("read =300:1"))
+}
+
+/// Worked examples of the NFC Forum's documents: URI RTD 1.0, appendix A (a web address, a telephone number), and a text of the Text RTD.
+fn published(cases: &mut Cases) -> io::Result<()> {
+    for message in [
+        &b"\xD1\x01\x08U\x01nfc.com"[..],
+        b"\xD1\x01\x0DU\x05+35891234567",
+        b"\xD1\x01\x10T\x02enHello, world!",
+    ] {
+        read_blocks(cases, &[&block(MESSAGE, message)])?;
+    }
+    Ok(())
+}
+
+/// The smallest inputs of docs/DIFFERENCES.md, 'The Rust, and so this port, and the NFC Forum documents', that stand nowhere else here.
+fn differences(cases: &mut Cases) -> io::Result<()> {
+    // Byte 2 of the container of eight bytes.
+    read(cases, b"\xE2\x40\x01\x00\x00\x00\x03\xFF\x03\x00")?;
+    // A record without the message-begin flag, of the reserved format.
+    read_blocks(cases, &[&block(MESSAGE, &record(LAST | SHORT | 7, b"", b"", b""))])?;
+    // A payload of exactly 255 in the long form, as some peers write it.
+    let payload = vec![b'p'; 255];
+    read_blocks(cases, &[&long_block(MESSAGE, &record(LAST | 2, b"a", b"", &payload))])
 }
 
 fn cards(cases: &mut Cases) -> io::Result<()> {

@@ -19,6 +19,14 @@ const MOST_BEFORE: usize = 70;
 /// ASCII after the string: none, one, and enough for a further block.
 const AFTER: [usize; 4] = [0, 1, 8, 64];
 
+/// The examples of RFC 3629, section 7: four texts that are well-formed.
+const PUBLISHED: [&[u8]; 4] = [
+    b"\x41\xE2\x89\xA2\xCE\x91\x2E",
+    b"\xED\x95\x9C\xEA\xB5\xAD\xEC\x96\xB4",
+    b"\xE6\x97\xA5\xE6\x9C\xAC\xE8\xAA\x9E",
+    b"\xEF\xBB\xBF\xF0\xA3\x8E\xB4",
+];
+
 fn fixed(cases: &mut Cases) -> io::Result<()> {
     cases.add(format_args!("is_utf8 -"))?;
     for row in rows() {
@@ -36,6 +44,9 @@ fn fixed(cases: &mut Cases) -> io::Result<()> {
         add(cases, &high[..high.len() - 1])?;
     }
     for bytes in ILL_FORMED {
+        add(cases, bytes)?;
+    }
+    for bytes in PUBLISHED {
         add(cases, bytes)?;
     }
     cases.add(format_args!("is_utf8 =66000:1"))?;
