@@ -5,7 +5,7 @@ PREFIX = /usr/local
 
 # LABEL is the text, TRACE=1 shows every transfer: make demo LABEL=HOXA13 TRACE=1
 demo:
-	@tools/demo $(if $(TRACE),--trace) $(LABEL)
+	@tools/demo $(if $(TRACE),--trace) $(if $(LABEL),"$(LABEL)")
 
 test:
 	@tools/gate

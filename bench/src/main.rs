@@ -66,7 +66,16 @@ fn building() {
         },
         || {
             let text = black_box(text);
-            unsafe { port::skp_text_image(black_box(b.as_mut_ptr()), 64, 8184, text.as_ptr(), text.len() as u64, values.as_mut_ptr()) };
+            unsafe {
+                port::skp_text_image(
+                    black_box(b.as_mut_ptr()),
+                    64,
+                    8184,
+                    text.as_ptr(),
+                    text.len() as u64,
+                    values.as_mut_ptr(),
+                )
+            };
         },
     );
     assert_eq!(a, b);
@@ -76,11 +85,23 @@ fn building() {
     let (mut a, mut b) = (vec![0u8; 4200], vec![0u8; 4200]);
     let times = both(
         || {
-            black_box(original::mime_image(black_box(&mut a), 8184, MIME, black_box(&payload))).unwrap();
+            black_box(original::mime_image(black_box(&mut a), 8184, MIME, black_box(&payload)))
+                .unwrap();
         },
         || {
             let (p, n) = (black_box(payload.as_ptr()), payload.len() as u64);
-            unsafe { port::skp_mime_image(black_box(b.as_mut_ptr()), 4200, 8184, MIME.as_ptr(), MIME.len() as u64, p, n, values.as_mut_ptr()) };
+            unsafe {
+                port::skp_mime_image(
+                    black_box(b.as_mut_ptr()),
+                    4200,
+                    8184,
+                    MIME.as_ptr(),
+                    MIME.len() as u64,
+                    p,
+                    n,
+                    values.as_mut_ptr(),
+                )
+            };
         },
     );
     assert_eq!(a, b);
@@ -90,7 +111,20 @@ fn building() {
 /// 8 KB with as many records of seven bytes as fit.
 fn many_records() -> Vec<u8> {
     let count = (8192 - 8 - 4 - 1) / 7;
-    let mut image = vec![0xE2, 0x40, 0, 1, 0, 0, 3, 0xFF, 3, 0xFF, (count * 7 / 256) as u8, (count * 7 % 256) as u8];
+    let mut image = vec![
+        0xE2,
+        0x40,
+        0,
+        1,
+        0,
+        0,
+        3,
+        0xFF,
+        3,
+        0xFF,
+        (count * 7 / 256) as u8,
+        (count * 7 % 256) as u8,
+    ];
     for i in 0..count {
         image.extend([if i + 1 == count { 0x51 } else { 0x11 }, 1, 3, b'T', 2, b'e', b'n']);
     }
@@ -115,9 +149,8 @@ fn walk_port(image: &[u8]) -> usize {
     sum as usize
 }
 
-/// An image whose one text fills 8 KB: words of several scripts, as labels have them.
-fn long_text() -> Vec<u8> {
-    let words = "MARCH1 and HOXA13, þorskur og ýsa, Прогулка, 遺伝子, 🧬 genes; ";
+/// An image whose one text fills 8 KB.
+fn long_text(words: &str) -> Vec<u8> {
     let mut text = words.repeat(8160 / words.len());
     while text.len() < 8160 {
         text.push('x');
@@ -127,36 +160,55 @@ fn long_text() -> Vec<u8> {
     image
 }
 
+/// Words of one script, and words of all of them side by side.
+const TEXTS: [(&str, &str); 6] = [
+    ("mixed text", "MARCH1 and HOXA13, þorskur og ýsa, Прогулка, 遺伝子, 🧬 genes; "),
+    ("English", "A tile holds one gene symbol, and a visitor's phone writes its partner back. "),
+    ("Icelandic", "Hver flís geymir eitt gen og sími gestsins skrifar félaga þess til baka. "),
+    ("Russian", "Каждая плитка хранит один ген, а телефон гостя пишет в ответ его пару. "),
+    ("Japanese", "タイルには遺伝子の名前が一つあり、来館者の電話がその相手を書き込む。"),
+    ("emoji", "🧬🐟🐙🦑🦐🦀🐡🐠🐬🐳🐋🦈"),
+];
+
+fn texts() {
+    for (name, words) in TEXTS {
+        let image = long_text(words);
+        let record = original::read(&image).unwrap().next().unwrap().unwrap();
+        let (mut cursor, mut places, mut part) =
+            (port::Cursor::default(), port::Record::default(), [0u64; 2]);
+        unsafe {
+            port::skp_read(image.as_ptr(), 8192, &mut cursor);
+            assert_eq!(port::skp_next(image.as_ptr(), 8192, &mut cursor, &mut places), 0);
+            assert_eq!(port::skp_text(image.as_ptr(), 8192, &places, part.as_mut_ptr()), 1);
+        }
+        assert_eq!(record.text().unwrap().len() as u64, part[1]);
+        let times = both(
+            || sink(black_box(&record).text()),
+            || {
+                sink(unsafe {
+                    port::skp_text(black_box(image.as_ptr()), 8192, &places, part.as_mut_ptr())
+                })
+            },
+        );
+        line(&format!("UTF-8 over 8 KB, {name}"), "1.0", times);
+    }
+}
+
 fn reading() {
     let image = many_records();
     assert_eq!(walk_original(&image), walk_port(&image));
-    let times = both(
-        || sink(walk_original(black_box(&image))),
-        || sink(walk_port(black_box(&image))),
-    );
+    let times =
+        both(|| sink(walk_original(black_box(&image))), || sink(walk_port(black_box(&image))));
     line("read and walk 8 KB of 1,168 records", "1.0", times);
-
-    let image = long_text();
-    let record = original::read(&image).unwrap().next().unwrap().unwrap();
-    let (mut cursor, mut places, mut part) = (port::Cursor::default(), port::Record::default(), [0u64; 2]);
-    unsafe {
-        port::skp_read(image.as_ptr(), 8192, &mut cursor);
-        assert_eq!(port::skp_next(image.as_ptr(), 8192, &mut cursor, &mut places), 0);
-        assert_eq!(port::skp_text(image.as_ptr(), 8192, &places, part.as_mut_ptr()), 1);
-    }
-    assert_eq!(record.text().unwrap().len() as u64, part[1]);
-    let times = both(
-        || sink(black_box(&record).text()),
-        || sink(unsafe { port::skp_text(black_box(image.as_ptr()), 8192, &places, part.as_mut_ptr()) }),
-    );
-    line("UTF-8 over 8 KB of mixed text", "1.0", times);
 }
 
 fn marks() {
     for (name, end) in [("empty", 0), ("half full", 4096), ("full", 8192)] {
         let mut image = vec![0u8; 8192];
         image[..end].fill(0x41);
-        assert_eq!(tag::high_water(&image) as u64, unsafe { port::skp_high_water(image.as_ptr(), 8192) });
+        assert_eq!(tag::high_water(&image) as u64, unsafe {
+            port::skp_high_water(image.as_ptr(), 8192)
+        });
         let times = both(
             || sink(tag::high_water(black_box(&image))),
             || sink(unsafe { port::skp_high_water(black_box(image.as_ptr()), 8192) }),
@@ -192,22 +244,34 @@ fn sessions() {
     let (bare, _) = both(|| session::bare(&mut part, &heard, &mut c), || {});
     let steps = heard.len() as f64;
     line(&format!("a whole session, {steps} transfers, with the part's share"), "1.5", whole);
-    line("one step of it, the part's share taken off", "1.5", ((whole.0 - bare) / steps, (whole.1 - bare) / steps));
+    line(
+        "one step of it, the part's share taken off",
+        "1.5",
+        ((whole.0 - bare) / steps, (whole.1 - bare) / steps),
+    );
 
     let mut clean = Some(part::Part::new());
     let mut host = session::Host::new(part::Part::new());
-    let scan = both(|| clean = Some(session::scan_original(clean.take().unwrap())), || session::scan_port(&mut host));
+    let scan = both(
+        || clean = Some(session::scan_original(clean.take().unwrap())),
+        || session::scan_port(&mut host),
+    );
     let reads: Vec<_> = (0..128u16).map(|i| (0x53, (i * 64).to_be_bytes().to_vec(), 64)).collect();
     let mut part = part::Part::new();
     let (bare, _) = both(|| session::bare(&mut part, &reads, &mut c), || {});
     line("the wipe's scan of a clean tile, 128 reads, with the part's share", "far below 1", scan);
-    line("one read of it, the part's share taken off", "far below 1", ((scan.0 - bare) / 128.0, (scan.1 - bare) / 128.0));
+    line(
+        "one read of it, the part's share taken off",
+        "far below 1",
+        ((scan.0 - bare) / 128.0, (scan.1 - bare) / 128.0),
+    );
 }
 
 fn main() {
     println!("| job | Rust, ns | port, ns | ratio | goal |\n|---|---|---|---|---|");
     building();
     reading();
+    texts();
     marks();
     sessions();
 }

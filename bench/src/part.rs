@@ -44,8 +44,12 @@ impl Bus for Part {
             (addr::RF_SWITCH_ON, 0) => self.rf &= 3,
             (addr::RF_SWITCH_OFF, 0) => self.rf |= 4,
             (addr::USER, 0) => {}
-            (addr::USER, _) if place(sent) == reg::RF_MNGT_DYN => self.rf = (self.rf & 4) | (sent[2] & 3),
-            (addr::USER, n) => self.memory[place(sent) as usize..][..n - 2].copy_from_slice(&sent[2..]),
+            (addr::USER, _) if place(sent) == reg::RF_MNGT_DYN => {
+                self.rf = (self.rf & 4) | (sent[2] & 3)
+            }
+            (addr::USER, n) => {
+                self.memory[place(sent) as usize..][..n - 2].copy_from_slice(&sent[2..])
+            }
             _ => return Err(Nack),
         }
         Ok(())

@@ -18,24 +18,29 @@ pub struct Record {
     pub payload_len: u64,
 }
 
+/// What is lent for writing, what is lent for reading, and how long it is.
+type Out = *mut u8;
+type In = *const u8;
+type Len = u64;
+
 /// A start that takes neither data nor `out`.
-pub type Start = unsafe extern "C" fn(*mut u8, u64, *mut u8, u64, *mut u8, u64) -> u64;
+pub type Start = unsafe extern "C" fn(Out, Len, Out, Len, Out, Len) -> u64;
 
 #[rustfmt::skip]
 #[link(name = "skipnadur", kind = "static")]
 extern "C" {
-    pub fn skp_text_image(out: *mut u8, out_len: u64, area: u64, text: *const u8, text_len: u64, values: *mut u64) -> u32;
-    pub fn skp_mime_image(out: *mut u8, out_len: u64, area: u64, mime: *const u8, mime_len: u64, payload: *const u8, payload_len: u64, values: *mut u64) -> u32;
-    pub fn skp_read(image: *const u8, image_len: u64, cursor: *mut Cursor) -> u32;
-    pub fn skp_next(image: *const u8, image_len: u64, cursor: *mut Cursor, record: *mut Record) -> u32;
-    pub fn skp_text(image: *const u8, image_len: u64, record: *const Record, part: *mut u64) -> u32;
-    pub fn skp_high_water(image: *const u8, image_len: u64) -> u64;
-    pub fn skp_tag_new(state: *mut u8, state_len: u64, mark: u64) -> u64;
-    pub fn skp_tag_begin(state: *mut u8, state_len: u64, transfer: *mut u8, transfer_len: u64, reply: *mut u8, reply_len: u64) -> u64;
-    pub fn skp_tag_scrub(state: *mut u8, state_len: u64, transfer: *mut u8, transfer_len: u64, reply: *mut u8, reply_len: u64) -> u64;
-    pub fn skp_tag_go_live(state: *mut u8, state_len: u64, transfer: *mut u8, transfer_len: u64, reply: *mut u8, reply_len: u64) -> u64;
-    pub fn skp_tag_finish(state: *mut u8, state_len: u64, transfer: *mut u8, transfer_len: u64, reply: *mut u8, reply_len: u64) -> u64;
-    pub fn skp_tag_read_whole(state: *mut u8, state_len: u64, transfer: *mut u8, transfer_len: u64, reply: *mut u8, reply_len: u64, out: *const u8, out_len: u64) -> u64;
-    pub fn skp_tag_write(state: *mut u8, state_len: u64, transfer: *mut u8, transfer_len: u64, reply: *mut u8, reply_len: u64, at: u64, data: *const u8, data_len: u64) -> u64;
-    pub fn skp_tag_reply(state: *mut u8, state_len: u64, transfer: *mut u8, transfer_len: u64, reply: *mut u8, reply_len: u64, data: *const u8, data_len: u64, out: *const u8, out_len: u64, ack: u32) -> u64;
+    pub fn skp_text_image(out: Out, _: Len, area: u64, text: In, _: Len, values: *mut u64) -> u32;
+    pub fn skp_mime_image(out: Out, _: Len, area: u64, mime: In, _: Len, payload: In, _: Len, values: *mut u64) -> u32;
+    pub fn skp_read(image: In, _: Len, cursor: *mut Cursor) -> u32;
+    pub fn skp_next(image: In, _: Len, cursor: *mut Cursor, record: *mut Record) -> u32;
+    pub fn skp_text(image: In, _: Len, record: *const Record, part: *mut u64) -> u32;
+    pub fn skp_high_water(image: In, _: Len) -> u64;
+    pub fn skp_tag_new(state: Out, _: Len, mark: u64) -> u64;
+    pub fn skp_tag_begin(state: Out, _: Len, transfer: Out, _: Len, reply: Out, _: Len) -> u64;
+    pub fn skp_tag_scrub(state: Out, _: Len, transfer: Out, _: Len, reply: Out, _: Len) -> u64;
+    pub fn skp_tag_go_live(state: Out, _: Len, transfer: Out, _: Len, reply: Out, _: Len) -> u64;
+    pub fn skp_tag_finish(state: Out, _: Len, transfer: Out, _: Len, reply: Out, _: Len) -> u64;
+    pub fn skp_tag_read_whole(state: Out, _: Len, transfer: Out, _: Len, reply: Out, _: Len, out: In, _: Len) -> u64;
+    pub fn skp_tag_write(state: Out, _: Len, transfer: Out, _: Len, reply: Out, _: Len, at: u64, data: In, _: Len) -> u64;
+    pub fn skp_tag_reply(state: Out, _: Len, transfer: Out, _: Len, reply: Out, _: Len, data: In, _: Len, out: In, _: Len, ack: u32) -> u64;
 }

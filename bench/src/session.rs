@@ -59,13 +59,23 @@ impl Host {
     }
 
     pub fn start(&mut self, call: Start) -> u64 {
-        unsafe { call(self.state.as_mut_ptr(), 20, self.transfer.as_mut_ptr(), 19, self.reply.as_mut_ptr(), 64) }
+        unsafe {
+            call(
+                self.state.as_mut_ptr(),
+                20,
+                self.transfer.as_mut_ptr(),
+                19,
+                self.reply.as_mut_ptr(),
+                64,
+            )
+        }
     }
 
     /// Takes an open call to its answer.
     pub fn carry_out(&mut self, mut step: u64, data: &[u8], out: &mut [u8]) {
         while step & 0xFF != 0 {
-            let (dev, send, read) = ((step >> 8) as u8, (step >> 16) as u16 as usize, (step >> 32) as u16 as usize);
+            let (dev, send, read) =
+                ((step >> 8) as u8, (step >> 16) as u16 as usize, (step >> 32) as u16 as usize);
             let sent = &self.transfer[..send];
             let taken = match step & 0xFF {
                 1 => self.part.write(dev, sent),
@@ -76,8 +86,17 @@ impl Host {
             let (lent, room) = (data.as_ptr(), if out.is_empty() { null() } else { out.as_ptr() });
             step = unsafe {
                 port::skp_tag_reply(
-                    self.state.as_mut_ptr(), 20, self.transfer.as_mut_ptr(), 19, self.reply.as_mut_ptr(), 64,
-                    lent, data.len() as u64, room, out.len() as u64, taken.is_ok() as u32,
+                    self.state.as_mut_ptr(),
+                    20,
+                    self.transfer.as_mut_ptr(),
+                    19,
+                    self.reply.as_mut_ptr(),
+                    64,
+                    lent,
+                    data.len() as u64,
+                    room,
+                    out.len() as u64,
+                    taken.is_ok() as u32,
                 )
             };
         }
@@ -96,11 +115,14 @@ pub fn port(story: &Story, host: &mut Host, out: &mut [u8]) {
     host.restart();
     host.call(port::skp_tag_begin);
     let (s, t, r) = (host.state.as_mut_ptr(), host.transfer.as_mut_ptr(), host.reply.as_mut_ptr());
-    let step = unsafe { port::skp_tag_write(s, 20, t, 19, r, 64, 0, story.label.as_ptr(), story.label.len() as u64) };
+    let step = unsafe {
+        port::skp_tag_write(s, 20, t, 19, r, 64, 0, story.label.as_ptr(), story.label.len() as u64)
+    };
     host.carry_out(step, &story.label, &mut []);
     host.call(port::skp_tag_go_live);
     host.part.phone(&story.partner);
-    let step = unsafe { port::skp_tag_read_whole(s, 20, t, 19, r, 64, out.as_ptr(), out.len() as u64) };
+    let step =
+        unsafe { port::skp_tag_read_whole(s, 20, t, 19, r, 64, out.as_ptr(), out.len() as u64) };
     host.carry_out(step, &[], out);
     host.call(port::skp_tag_finish);
 }
@@ -120,6 +142,10 @@ pub fn scan_port(host: &mut Host) {
 /// The transfers of a session once more, with nobody to decide on them.
 pub fn bare(part: &mut Part, heard: &[(u8, Vec<u8>, usize)], out: &mut [u8]) {
     for (dev, sent, read) in heard {
-        let _ = if *read == 0 { part.write(*dev, sent) } else { part.write_read(*dev, sent, &mut out[..*read]) };
+        let _ = if *read == 0 {
+            part.write(*dev, sent)
+        } else {
+            part.write_read(*dev, sent, &mut out[..*read])
+        };
     }
 }
