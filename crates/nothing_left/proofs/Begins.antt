@@ -91,6 +91,7 @@ plainly-clean q m R p h =
     (record { answer = ap plain (k .answer); mark = k .mark; off = k .off; empty = k .empty; idle = k .idle })) m R p h)
 
 pub begins-clean : (p : Part) → Intact p → p .registers .busy ≡ 0 → (w : Moments) → Clean (run call.begin whole p w)
+unfolding begin
 begins-clean p i z =
     clean-run call.begin whole p
     (plainly-clean (begin whole) whole [] p

@@ -178,7 +178,7 @@ low-stable M top = record { phone = kept; clock = λ p b i. record { ready = rea
     kept : (p q : Part) → Still p q → Low M top p → Low M top q
     kept p q same i = i
 
-pub on-still : (Q : Res Unit → Mark → List ℕ → Part → Type 0) (m : Mark) (R M : List ℕ)
+on-still : (Q : Res Unit → Mark → List ℕ → Part → Type 0) (m : Mark) (R M : List ℕ)
     → ((p : Part) → Ready M p → p .registers .rf ≡ 0 → p .registers .busy ≡ 0 → Q (ok tt) m R p)
     → (p : Part) → Ready M p → p .registers .busy ≡ 0 → always Still rfOn Q m R p
 unfolding rfOn orderOf lookOf

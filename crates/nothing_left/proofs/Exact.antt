@@ -56,7 +56,7 @@ abbrev Sweeps : Mark → Part → Answer → Mark → List ℕ → Part → Type
 Sweeps m p a n R x = (a ≡ Done) × Swept m p n R x
 
 pub wipe-exact : (p : Part) → length (p .memory) ≡ 8192 → rfOn (p .registers) ≡ false → p .registers .busy ≡ 0 → (m : Mark) (w : Moments) → Exact m p (run scrub m p w)
-unfolding runBy
+unfolding runBy s.scrub
 wipe-exact p size off idle m w =
     let h : always Phone (treeOf scrub m) (Sweeps m p) m [] p =
     always-bind Phone (s.scrub m) (λ r. done (plain r)) (Sweeps m p) m [] p

@@ -17,8 +17,8 @@ pub mod Safe
 pub mod Closings
 pub mod Ordered
 pub mod Exact
-pub mod Witnesses
 pub mod Opened
+pub mod Witnesses
 pub mod Earlys
 pub mod Slips
 pub mod Theorems

@@ -2,16 +2,18 @@
 --
 --   held g v b n k M     == a part that is set up: GPO1 is g, RF_MNGT_Dyn is v, b is reported, n ms are left of the cycle k, the memory is M
 --   calm                 == no phones, and cycles that end at once
+--   eager                == a phone writes a byte before every transfer, as far as RF is on
+--   late k               == no phone for k transfers, then that one
 --   Blank g a n x        == a call that answered a with the mark n left the part x: Ok, none, all zero, RF off, nothing reported
 --   Opened t g           == a session of the program t after `begin`
 use mathlib.Core.Path.{_≡_, refl, ap, subst, sym, _∙_}
 use mathlib.Core.Bool.{Bool, false}
 use mathlib.Core.List.{List, [], _∷_}
-use Prim.Native.Nat.{ℕ, min}
+use Prim.Native.Nat.{ℕ, zero, suc, min}
 use native.Mathlib.Omega.{arith}
 use lib.ListN.{length, replicate, length-replicate}
 use Rattle.protocol.specs.Mark.{Mark, none, whole, isNone}
-use Rattle.protocol.specs.Proc.{Proc, done}
+use Rattle.protocol.specs.Proc.{done}
 use Rattle.protocol.specs.Rf.{rfOff}
 use Rattle.protocol.specs.Scrub.{scrub}
 use Rattle.protocol.specs.Call as call
@@ -49,9 +51,13 @@ held g v b n k M = record {
 abbrev pub calm : Moments
 calm n = record { phone = still; cycle = 0 }
 
--- a phone writes a byte before every transfer, as far as RF is on
 abbrev pub eager : Moments
 eager n = record { phone = writes 0 (1 ∷ []); cycle = 0 }
+
+abbrev pub late : ℕ → Moments
+late zero n = eager n
+late (suc k) zero = calm 0
+late (suc k) (suc n) = late k n
 
 pub zeros : List ℕ
 zeros = replicate 8192 0
@@ -113,7 +119,7 @@ swept g M l =
     (held g 4 false 0 Nothing M) (record { left = 0; cycle = Nothing; is = refl }) refl))
 
 -- `begin`, as it is, on a part whose GPO1 is right
-pub right-begin : (M : List ℕ) → length M ≡ 8192
+right-begin : (M : List ℕ) → length M ≡ 8192
     → let o = runBy callOf call.begin whole (held 0x85 0 false 0 Nothing M) calm in Blank 0x85 (o .end .answer) (o .end .mark) (o .part)
 unfolding runBy begin rfOff isNone whole orderOf lookOf fresh
 right-begin M l =
@@ -139,5 +145,11 @@ opened t g M l h = record {
   cycle = h .cycle;
   empty = h .empty;
   session = subst (λ (n : Mark). SessionBy t quiet n (held g 4 false 0 (h .cycle) (h .memory))) (h .mark)
-      (subst (λ (x : Part). SessionBy t quiet (runBy t call.begin whole (held g 0 false 0 Nothing M) calm .end .mark) x) (h .is) (first (powered t g M l) calm));
+      (subst (λ (x : Part). SessionBy t quiet (runBy t call.begin whole (held g 0 false 0 Nothing M) calm .end .mark) x) (h .is)
+      (first (powered t g M l) calm));
 }
+
+-- a program whose `begin` is right
+pub begun : (t : Program) → t call.begin whole ≡ callOf call.begin whole → Opened t 0x85
+unfolding runBy
+begun t e = opened t 0x85 zeros zeros-length (rw e (right-begin zeros zeros-length))

@@ -72,6 +72,7 @@ ended-quiet : (f : Phase) (a : Answer) (n : Mark) (x : Part) → a ≡ Done → 
 ended-quiet f a n x e s = subst (λ (b : Answer). Holds (later f finish b) n x) (sym e) s
 
 step-finish : (f : Phase) (m : Mark) (p : Part) → Kept m p → always Phone (treeOf finish m) (λ a n S x. Holds (later f finish a) n x) m [] p
+unfolding calls.closing calls.finish
 step-finish f m p k =
     always-mono Phone (treeOf finish m) (λ a n S x. Cleaned Done a n x) (λ a n S x. Holds (later f finish a) n x)
     (λ a n S x c. ended-quiet f a n x (c .answer) (cleaned-safe Done a n x c)) m [] p
@@ -83,6 +84,7 @@ looked-holds f k a n S x (whole-read h) = always-done Phone Done (λ b j T y. Ho
 looked-holds f k a n S x (refused h) = always-done Phone _ (λ b j T y. Holds (later f (readWhole k) b) j y) n S x h
 
 step-read : (f : Phase) (k : ℕ) (m : Mark) (p : Part) → Holds f m p → always Phone (treeOf (readWhole k) m) (λ a n S x. Holds (later f (readWhole k) a) n x) m [] p
+unfolding calls.readWhole
 step-read f k m p h =
     always-bind Phone (calls.readWhole m k) (λ r. done (plain r)) (λ a n S x. Holds (later f (readWhole k) a) n x) m [] p
     (always-mono Phone (calls.readWhole m k) (λ a n S x. Looked (Holds f) a n x) _
@@ -90,6 +92,7 @@ step-read f k m p h =
 
 -- each call in its place
 step : (f : Phase) (m : Mark) (p : Part) (c : Call) → allowed f c ≡ true → Holds f m p → always Phone (treeOf c m) (λ a n S x. Holds (later f c a) n x) m [] p
+unfolding wr.writeUser s.scrub calls.begin calls.goLive
 step f m p identify e h = same-phase f setup.identify tame-identify m (safe-identify Phone Off off-world m []) (safe-identify Still Ready ready-world m []) p h
 step f m p prepare e h = same-phase f setup.prepare tame-prepare m (safe-prepare Phone Off off-world m []) (safe-prepare Still Ready ready-world m []) p h
 step f m p waitReady e h = same-phase f (w.waitReady readyPolls) (tame-wait readyPolls) m (safe-wait Phone Off off-world m []) (safe-wait Still Ready ready-world m []) p h
@@ -120,6 +123,7 @@ ran c m p Q h t =
     rw e k
 
 pub session-holds : (f : Phase) (m : Mark) (p : Part) → Session f m p → Holds f m p
+unfolding calls.begin
 session-holds f m p (first {p = q} u t) =
     let i = powered-up q u in
     ran begin whole q (λ a n x. Safe Off n x)
@@ -136,5 +140,6 @@ session-holds f m p (next {f = g} {m = n} {p = q} k c e t) =
     ran c n q (λ a j x. Holds (later g c a) j x) (step g n q c e (session-holds g n q k)) t
 
 pub session-finish : (f : Phase) (m : Mark) (p : Part) → Session f m p → (t : Moments) → Clean (run finish m p t)
+unfolding calls.closing calls.finish
 session-finish f m p k t =
     clean-run finish m p (plainly-clean (calls.finish m) m [] p (finishes m [] p (holds-kept f m p (session-holds f m p k)))) t

@@ -9,7 +9,7 @@ use Rattle.protocol.specs.Call.{Call, identify, prepare, waitReady, readUser, w
 use Rattle.protocol.specs.Calls as calls
 use Rattle.protocol.specs.Calls.{callOf}
 use Rattle.nothing_left.specs.Trees.{treeOf}
-use Rattle.nothing_left.specs.Slips.{callsBy, wiping, refusesEverything, wipesNothing, wipesFirstChunk, wipesToMark, prepareSkips, beginEarly, goesLiveLate, finishTrusts, writeForgets}
+use Rattle.nothing_left.specs.Slips.{callsBy, wiping, refusesEverything, wipesNothing, wipesFirstChunk, wipesToMark, prepareSkips, beginEarly, goesLiveLate, finishTrusts, finishAsksEarly, writeForgets, readsEarly}
 use Rattle.nothing_left.specs.Claims.{NothingLeft, CoveredOrReported, FinishLeavesNothing, ScrubExact}
 use Rattle.nothing_left.proofs.Slips as slip
 use Rattle.nothing_left.proofs.Earlys as early
@@ -60,12 +60,20 @@ goes-live-late = slip.goes-live-late
 pub finish-trusts : FinishLeavesNothing finishTrusts → ⊥
 finish-trusts = slip.finish-trusts
 
+-- `finish` that reads the status before RF is off: a phone writes in between, and its byte is left.
+pub finish-asks-early : FinishLeavesNothing finishAsksEarly → ⊥
+finish-asks-early = slip.finish-asks-early
+
 -- `write` that does not move the mark: the byte that it wrote is covered by nothing.
 pub write-forgets : CoveredOrReported writeForgets → ⊥
 write-forgets = slip.write-forgets
 
+-- `read_whole` that reads before RF is off: a phone writes behind the read, and its report is lost.
+pub reads-early : CoveredOrReported readsEarly → ⊥
+reads-early = slip.reads-early
+
 -- The wrong programs differ from the right one in what is put in, and in nothing else: with the right calls the two forms are it.
-pub but-for-that : (c : Call) (m : Mark) → callsBy setup.prepare w.writeUser s.scrub calls.begin calls.goLive calls.finish c m ≡ callOf c m
+pub but-for-that : (c : Call) (m : Mark) → callsBy setup.prepare w.writeUser calls.readWhole s.scrub calls.begin calls.goLive calls.finish c m ≡ callOf c m
 but-for-that identify m = refl
 but-for-that prepare m = refl
 but-for-that waitReady m = refl

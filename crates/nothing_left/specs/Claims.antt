@@ -27,4 +27,5 @@ abbrev pub FinishLeavesNothing : Program → Type 0
 FinishLeavesNothing t = (f : Phase) (m : Mark) (p : Part) → SessionBy t f m p → (w : Moments) → Clean (runBy t finish m p w)
 
 abbrev pub ScrubExact : Program → Type 0
-ScrubExact t = (p : Part) → ThePart p → rfOn (p .registers) ≡ false → free (p .registers) ≡ true → (m : Mark) (w : Moments) → Exact m p (runBy t scrub m p w)
+ScrubExact t =
+    (p : Part) → ThePart p → rfOn (p .registers) ≡ false → free (p .registers) ≡ true → (m : Mark) (w : Moments) → Exact m p (runBy t scrub m p w)
