@@ -23,6 +23,7 @@ use skipnadur::starts::skp_tag_finish;
 use skipnadur::starts::skp_tag_go_live;
 use skipnadur::starts::skp_tag_read_whole;
 use skipnadur::starts::skp_tag_write;
+use slices::front;
 
 // The calls of a session, by their place in the day: begin, a label written, live, read back, finish.
 fn first_step(
@@ -84,7 +85,60 @@ fn visits(s: Swept, memory: &mut Memory) -> Swept {
     Swept { bench, tally }
 }
 
-// The fourth call lends the whole `out`, the second the label; the others nothing.
+// The fourth call: phones come, then the whole tile is read back into `out`.
+fn cut_reading(
+    s: Swept,
+    plan: Plan,
+    identity: &Identity,
+    memory: &mut Memory,
+    state: &mut State,
+    transfer: &mut Transfer,
+    reply: &mut Reply,
+    out: &mut Memory,
+) -> Swept {
+    let v = visits(s, memory);
+    cut_call(
+        v,
+        3,
+        plan,
+        identity,
+        memory,
+        state,
+        transfer,
+        reply,
+        &[],
+        out,
+    )
+}
+
+// Another call: the second lends the label, the others nothing.
+fn cut_plain(
+    s: Swept,
+    call: u64,
+    plan: Plan,
+    identity: &Identity,
+    memory: &mut Memory,
+    state: &mut State,
+    transfer: &mut Transfer,
+    reply: &mut Reply,
+) -> Swept {
+    let mut nothing = [0u8; 0];
+    let text = label();
+    let n = if call == 1 { 24 } else { 0 };
+    cut_call(
+        s,
+        call,
+        plan,
+        identity,
+        memory,
+        state,
+        transfer,
+        reply,
+        front(&text, n),
+        &mut nothing,
+    )
+}
+
 fn cut_next(
     s: Swept,
     call: u64,
@@ -96,67 +150,20 @@ fn cut_next(
     reply: &mut Reply,
     out: &mut Memory,
 ) -> Swept {
-    let mut nothing = [0u8; 0];
-    let text = label();
-    match call {
-        1 => cut_call(
-            s,
-            call,
-            plan,
-            identity,
-            memory,
-            state,
-            transfer,
-            reply,
-            &text,
-            &mut nothing,
-        ),
-        3 => {
-            let v = visits(s, memory);
-            cut_call(
-                v,
-                call,
-                plan,
-                identity,
-                memory,
-                state,
-                transfer,
-                reply,
-                &[],
-                out,
-            )
-        }
-        _ => cut_call(
-            s,
-            call,
-            plan,
-            identity,
-            memory,
-            state,
-            transfer,
-            reply,
-            &[],
-            &mut nothing,
-        ),
+    if call == 3 {
+        return cut_reading(s, plan, identity, memory, state, transfer, reply, out);
     }
+    cut_plain(s, call, plan, identity, memory, state, transfer, reply)
+}
+
+// MEM_SIZE 2,047, block size, product, and a UID that ends in E0.
+fn identification() -> Identity {
+    *b"\xff\x07\x03\x51\x11\x22\x33\x44\x55\x51\x02\xe0"
 }
 
 // The first `calls` calls of a session on the part `b`, whose memory is lent.
 fn day(b: Bench, calls: u64, plan: Plan, memory: &mut Memory, t: Tally) -> Tally {
-    let identity = [
-        0xff,
-        0x07,
-        0x03,
-        0x51,
-        0x11,
-        0x22,
-        0x33,
-        0x44,
-        0x55,
-        0x51,
-        0x02,
-        0xe0,
-    ];
+    let identity = identification();
     let mut state = [0u8; 20];
     let mut transfer = [0u8; 19];
     let mut reply = [0u8; 64];

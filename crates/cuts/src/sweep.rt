@@ -43,7 +43,7 @@ fn tried(
         return counted(t);
     }
     let u = trial(b, delayed, identity, memory, t);
-    if u.cuts % 5000 == 0 {
+    if u.cuts % 1000 == 0 {
         progress(u, plan.total);
     }
     u

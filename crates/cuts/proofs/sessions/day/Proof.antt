@@ -12,6 +12,9 @@ abbrev μ-loop : tie.MeasureT-loop
 μ-loop calls plan memory₀ identity state₀ transfer₀ reply₀ out₀ s₀ call₀ memory state transfer reply out s call =
     calls - call
 
+identification-requires : tie.Need-identification-requires Inv-loop μ-loop
+identification-requires c κs = search needs
+
 slice-aggregate-skp-tag-new : tie.Need-slice-aggregate-skp-tag-new Inv-loop μ-loop
 slice-aggregate-skp-tag-new c = search needs
 
@@ -25,7 +28,7 @@ cut-next-requires : tie.Need-cut-next-requires Inv-loop μ-loop
 cut-next-requires c κs = search needs
 
 add-call : tie.Need-add-call Inv-loop μ-loop
-add-call c = omega (arith, c .before .before .before .before .before .before .before .before .before .before .before .before .fits .calls)
+add-call c = omega (arith, c .before .before .before .before .before .before .before .before .before .before .before .before .before .fits .calls)
 
 loop-less : tie.Need-loop-less Inv-loop μ-loop
 loop-less c = search needs
@@ -45,6 +48,7 @@ day-spec =
     (tie.spec
     Inv-loop
     μ-loop
+    identification-requires
     slice-aggregate-skp-tag-new
     skp-tag-new-requires
     loop-holds
