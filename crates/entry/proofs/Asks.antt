@@ -9,9 +9,6 @@ use Rattle.scan.specs.Rows.{rowLen}
 use Rattle.scan.proofs.Cutting.{row-most}
 use Rattle.protocol.specs.Mark.{Mark}
 use Rattle.protocol.specs.Write.{past}
-use Rattle.machine.specs.Wait.{waitAsk}
-use Rattle.machine.specs.declared.wait.Wait.{Wait}
-use Rattle.machine.specs.declared.wait.Wait.the-variants as W
 use Rattle.machine.specs.Switch.{switchAsk}
 use Rattle.machine.specs.declared.switch.Switch.{Switch}
 use Rattle.machine.specs.declared.switch.Switch.the-variants as S
@@ -20,9 +17,6 @@ use Rattle.setup.specs.declared.open.Open.the-variants as O
 use Rattle.setup.specs.declared.store.Store.the-variants as T
 use Rattle.setup.specs.declared.setup.Setup.{Setup}
 use Rattle.setup.specs.declared.setup.Setup.the-variants as U
-use Rattle.wipe.specs.Scrub.{scrubAsk}
-use Rattle.wipe.specs.declared.scrub.Scrub.{Scrub}
-use Rattle.wipe.specs.declared.scrub.Scrub.the-variants as C
 use Rattle.writing.specs.Write.{writeAsk, pieceOf}
 use Rattle.writing.specs.declared.write.Write.{Write}
 use Rattle.writing.specs.declared.write.Write.the-variants as K
@@ -41,12 +35,9 @@ use Rattle.kept.proofs.Pieces.{WriteIn, write-says}
 use Rattle.kept.proofs.Sounds.{mark-inside, open-sound}
 use Rattle.kept.proofs.Ables.{able}
 use Rattle.kept.proofs.Small.{flat-small}
+use Rattle.wiping.proofs.Shorts.{wait-fits, scrub-fits}
 use Rattle.telling.specs.Step.{AskFits}
 use Rattle.telling.specs.Fit.{StageFits, TurnFits}
-
-wait-asks : (n : ℕ) (w : Wait) → AskFits n (waitAsk w)
-wait-asks n (W.Poll k) = tt
-wait-asks n (W.Pause k) = tt
 
 flip-asks : (n : ℕ) (on : Bool) (k : ℕ) → AskFits n (switchAsk (S.Flip on k))
 flip-asks n true k = tt
@@ -62,19 +53,13 @@ setup-asks : (n : ℕ) (s : Setup) → AskFits n (setupAsk s)
 setup-asks n U.Identify = omega arith
 setup-asks n U.Config = omega arith
 setup-asks n (U.Open first O.Present) = tt
-setup-asks n (U.Open first (O.Wait w)) = wait-asks n w
+setup-asks n (U.Open first (O.Wait w)) = wait-fits n w
 setup-asks n (U.Open first O.Look) = omega arith
 setup-asks n (U.Store j T.Send) = tt
 setup-asks n (U.Store j T.Pause) = tt
-setup-asks n (U.Store j (T.Wait w)) = wait-asks n w
+setup-asks n (U.Store j (T.Wait w)) = wait-fits n w
 setup-asks n (U.Store j T.Look) = omega arith
 setup-asks n U.Events = omega arith
-
-scrub-asks : (n : ℕ) (s : Scrub) → AskFits n (scrubAsk s)
-scrub-asks n (C.Read p) = omega arith
-scrub-asks n (C.Row p r) = tt
-scrub-asks n (C.Wait p r w) = wait-asks n w
-scrub-asks n (C.Reread p) = omega arith
 
 write-asks : (m n rows : ℕ) (w : Write) → WriteIn m n rows w → AskFits n (writeAsk n w)
 write-asks m n rows (K.Row p) h =
@@ -82,13 +67,13 @@ write-asks m n rows (K.Row p) h =
     let d = i .more in
     let r = row-most (p .start + p .done) (n - p .done) in
     (omega (arith, d, r .0), r .1)
-write-asks m n rows (K.Wait p w) h = wait-asks n w
+write-asks m n rows (K.Wait p w) h = wait-fits n w
 write-asks m n rows (K.Check c) h = omega arith
 
 stage-asks : (m rows n : ℕ) (st : Stage) → stageSound m rows n st ≡ true → AskFits n (stageAsk n st)
 stage-asks m rows n G.Identify e = omega arith
 stage-asks m rows n (G.Prepare s) e = setup-asks n s
-stage-asks m rows n (G.WaitReady w) e = wait-asks n w
+stage-asks m rows n (G.WaitReady w) e = wait-fits n w
 stage-asks m rows n (G.ReadUser at k) e =
     let h = ltb-false 8192 (at + k) (not-true (past at k) (both (plain rows n) (not (past at k)) e .1)) in omega (arith, h)
 stage-asks m rows n (G.Write w) e = write-asks m n rows w (write-says m n rows w e)
@@ -97,13 +82,13 @@ stage-asks m rows n G.RfWrote e = omega arith
 stage-asks m rows n (G.WholeOff s) e = switch-asks n s
 stage-asks m rows n G.WholeStatus e = omega arith
 stage-asks m rows n G.WholeRead e = omega arith
-stage-asks m rows n (G.Wipe s) e = scrub-asks n s
+stage-asks m rows n (G.Wipe s) e = scrub-fits n s
 stage-asks m rows n (G.BeginSetup s) e = setup-asks n s
 stage-asks m rows n (G.BeginOff s) e = switch-asks n s
 stage-asks m rows n G.LiveStatus e = omega arith
 stage-asks m rows n (G.FinishOff s) e = switch-asks n s
 stage-asks m rows n (G.FinishStatus stuck) e = omega arith
-stage-asks m rows n (G.FinishWipe stuck s) e = scrub-asks n s
+stage-asks m rows n (G.FinishWipe stuck s) e = scrub-fits n s
 
 -- data is lent to a write alone, and no more than the part holds
 none-lent : (rows n : ℕ) (b : Bool) → (plain rows n && b) ≡ true → n ≤ 8192

@@ -28,6 +28,7 @@ use Rattle.state.specs.declared.decode.Decoded.the-variants.{State, Nothing}
 use Rattle.kept.proofs.Sounds.{mark-inside, start-sound, step-sound}
 use Rattle.kept.proofs.Small.{flat-small}
 use Rattle.kept.proofs.Decode.{now-counts}
+use Rattle.kept.proofs.Truths.{either-no}
 use Rattle.telling.specs.Left.{short, openedNow, openedBy, openedOf, markOf, misfit, heardNow, heardBy}
 use Rattle.telling.specs.Fit.{StageFits, TurnFits, StartFits}
 use Rattle.turns.specs.Able.{Able}
@@ -58,10 +59,6 @@ decoded-says l q h = decoded-if l q (eqb (length l) 20) refl h
 pub decoded-inside : (l : List ℕ) (d : Decoded) → d ≡ decodeOf l → Inside d
 decoded-inside l (State q) e = mark-inside q (decoded-says l q (sym e) .1)
 decoded-inside l Nothing e = tt
-
-either-no : (a b : Bool) → (a || b) ≡ false → (a ≡ false) × (b ≡ false)
-either-no true b e = absurd (let z : _≡_ {A = ℕ} 0 1 = cc in omega arith)
-either-no false b e = (refl, e)
 
 long : (t r : ℕ) → short t r ≡ false → (19 ≤ t) × (64 ≤ r)
 long t r e = let h = either-no (ltb t 19) (ltb r 64) e in (ltb-false t 19 (h .0), ltb-false r 64 (h .1))

@@ -18,6 +18,9 @@ use telling::opening::Heard;
 use telling::opening::heard_at;
 use telling::step::step;
 use turns::stage::Stage;
+use wiping::short::Next;
+use wiping::short::leave;
+use wiping::short::next_of;
 
 // The call goes on from the stage that waited on this reply.
 fn go_on(
@@ -39,8 +42,8 @@ fn go_on(
     settle(state, transfer, reply, lent, n, t)
 }
 
-// A reply: 0 for refused, any other number for acknowledged.
-pub fn reply(
+// A reply, whatever the stage.
+fn by_stage(
     state: &mut [u8],
     transfer: &mut [u8],
     reply: &mut [u8],
@@ -54,6 +57,24 @@ pub fn reply(
     match h {
         Heard::Goes(m, rows, st) => go_on(state, transfer, reply, lent, out, ack != 0, m, rows, st),
         Heard::Not(n) => step(0, n, 0, 0),
+    }
+}
+
+// A reply: 0 for refused, any other number for acknowledged.
+pub fn reply(
+    state: &mut [u8],
+    transfer: &mut [u8],
+    reply: &mut [u8],
+    lent: &[u8],
+    out: &[u8],
+    ack: u32,
+) -> u64
+    ensures { λ r. ⌜ Leaves (replyLeft (now (state .entry)) (now (transfer .entry)) (now (reply .entry)) (now (lent .entry)) (now (out .entry)) ack) r (now (state .exit)) (now (transfer .exit)) (now (reply .exit)) ⌝ }
+{
+    let n = next_of(state, transfer, reply, lent, out, ack);
+    match n {
+        Next::To(f, s) => leave(state, transfer, f, s),
+        Next::Not => by_stage(state, transfer, reply, lent, out, ack),
     }
 }
 

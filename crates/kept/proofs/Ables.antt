@@ -23,7 +23,7 @@ use Rattle.kept.proofs.Chunks.{ScrubIn, stop-inside, scrub-says}
 use Rattle.kept.proofs.Pieces.{WriteIn, write-says}
 use Rattle.kept.proofs.Sounds.{mark-inside, open-sound}
 
-scrub-near : (m : Mark) (rows : ℕ) (s : Scrub) → ScrubIn m rows s → Near s
+pub scrub-near : (m : Mark) (rows : ℕ) (s : Scrub) → ScrubIn m rows s → Near s
 scrub-near m rows (C.Read p) h = let g = stop-inside m p (h .0) .1 in omega (arith, g)
 scrub-near m rows (C.Row p r) h = tt
 scrub-near m rows (C.Wait p r w) h =

@@ -64,7 +64,7 @@ taken : (b : Bool) (d : Decoded) → b ≡ true → pick b d Nothing ≡ d
 taken true d e = refl
 taken false d e = absurd (let z : _≡_ {A = ℕ} 0 1 = cc in omega arith)
 
-flat-decoded : (s : Session) → sound s ≡ true → decodeFlat (flatten s) ≡ State s
+pub flat-decoded : (s : Session) → sound s ≡ true → decodeFlat (flatten s) ≡ State s
 flat-decoded s e =
     ap (λ (t : Session). pick (sameFlat (flatten t) (flatten s) && sound t) (State t) Nothing) (flat-back s)
     ∙ taken (sameFlat (flatten s) (flatten s) && sound s) (State s) (both-so _ _ (same-flat (flatten s)) e)

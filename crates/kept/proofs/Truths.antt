@@ -22,6 +22,10 @@ pub either-right : (a b : Bool) → b ≡ true → (a || b) ≡ true
 either-right true b e = refl
 either-right false b e = e
 
+pub either-no : (a b : Bool) → (a || b) ≡ false → (a ≡ false) × (b ≡ false)
+either-no true b e = absurd (let z : _≡_ {A = ℕ} 0 1 = cc in omega arith)
+either-no false b e = (refl, e)
+
 pub not-both : (b : Bool) → b ≡ true → b ≡ false → ⊥
 not-both true e f = let z : _≡_ {A = ℕ} 0 1 = cc in omega arith
 not-both false e f = let z : _≡_ {A = ℕ} 0 1 = cc in omega arith

@@ -103,7 +103,7 @@ fn switch_from(c: Code) -> Switch
     Switch::Rest(on, c.count)
 }
 
-fn chunk_from(p: Place) -> Chunk
+pub fn chunk_from(p: Place) -> Chunk
     ensures { λ r. ⌜ r ≡ chunkFrom p ⌝ }
 {
     Chunk {
@@ -113,7 +113,7 @@ fn chunk_from(p: Place) -> Chunk
     }
 }
 
-fn rows_from(p: Place) -> Rows
+pub fn rows_from(p: Place) -> Rows
     ensures { λ r. ⌜ r ≡ rowsFrom p ⌝ }
 {
     let bits = p.bits;

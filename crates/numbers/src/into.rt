@@ -99,7 +99,7 @@ fn switch_code(s: Switch) -> Code
     }
 }
 
-fn scrub_code(stuck: u8, s: Scrub) -> Code
+pub fn scrub_code(stuck: u8, s: Scrub) -> Code
     ensures { λ r. ⌜ r ≡ scrubCode stuck s ⌝ }
 {
     match s {
@@ -150,7 +150,7 @@ fn row_place(p: Chunk, r: Rows) -> Place
     }
 }
 
-fn scrub_place(s: Scrub) -> Place
+pub fn scrub_place(s: Scrub) -> Place
     ensures { λ r. ⌜ r ≡ scrubPlace s ⌝ }
 {
     match s {

@@ -85,7 +85,7 @@ fn off_sound(s: Switch) -> bool
 }
 
 // Where a chunk of the wipe from the mark m stops; 0 for a chunk that it does not have.
-fn chunk_stop(m: usize, p: Chunk) -> usize
+pub fn chunk_stop(m: usize, p: Chunk) -> usize
     requires { ⌜ m ≤ 8192 ⌝ }
     ensures { λ r. ⌜ (r ≡ chunkStop m p) × (r ≤ 8192) ⌝ }
 {
@@ -111,7 +111,7 @@ fn to_come(bit: bool, at: usize, stop: usize) -> bool
     !bit | (at < stop)
 }
 
-fn row_sound(stop: usize, p: Chunk, r: Rows) -> bool
+pub fn row_sound(stop: usize, p: Chunk, r: Rows) -> bool
     requires { ⌜ stop ≤ 8192 ⌝ }
     ensures { λ b. ⌜ b ≡ rowSound stop p r ⌝ }
 {

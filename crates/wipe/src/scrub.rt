@@ -82,7 +82,7 @@ fn next_chunk(p: Chunk) -> Scrubbed
 }
 
 // The first row to be programmed from `row` on, of three; the chunk is read again where there is none.
-fn next_row(p: Chunk, row: usize, x: bool, y: bool, z: bool) -> Scrub
+pub fn next_row(p: Chunk, row: usize, x: bool, y: bool, z: bool) -> Scrub
     requires { ⌜ row < 70000 ⌝ }
     ensures { λ r. ⌜ r ≡ nextRow p row (x ∷ y ∷ z ∷ []) ⌝ }
 {
@@ -147,7 +147,7 @@ fn rows_found(p: Chunk, a: bool, b: bool, c: bool, d: bool) -> Scrubbed
 }
 
 // The reply to the read of a chunk.
-fn read_step(p: Chunk, ack: bool, reply: &[u8]) -> Scrubbed
+pub fn read_step(p: Chunk, ack: bool, reply: &[u8]) -> Scrubbed
     requires { ⌜ (p .at < 69000) × (64 ≤ length (now reply)) ⌝ }
     ensures { λ r. ⌜ r ≡ readStep p ack (now (reply .entry)) ⌝ }
 {
@@ -165,7 +165,7 @@ fn read_step(p: Chunk, ack: bool, reply: &[u8]) -> Scrubbed
 }
 
 // The reply to the second read, of a chunk that was programmed.
-fn reread_step(p: Chunk, ack: bool, reply: &[u8]) -> Scrubbed
+pub fn reread_step(p: Chunk, ack: bool, reply: &[u8]) -> Scrubbed
     requires { ⌜ (p .at < 69000) × (64 ≤ length (now reply)) ⌝ }
     ensures { λ r. ⌜ r ≡ rereadStep p ack (now (reply .entry)) ⌝ }
 {

@@ -1,58 +1,82 @@
 use borrow.Author.Needs.{needs}
 use Rattle.entry.proofs.replies.reply.Statement.{statement}
 use Rattle.entry.proofs.replies.reply.Tie as tie
-use mathlib.Core.Path.{refl, sym, _∙_}
+use Rattle.entry.proofs.replies.reply.Reads as reads
+use Rattle.entry.proofs.replies.reply.Lts as lts
+use Rattle.entry.proofs.replies.by_stage.Reads as by-stage-reads
+use Rattle.wiping.proofs.short.leave.Reads as leave-reads
+use Rattle.wiping.proofs.short.next_of.Reads as next-of-reads
+use mathlib.Core.Path.{refl, sym, subst}
 use denote.Ref.{now}
-use lib.ListN.{length}
-use Rattle.state.specs.Bytes.{decodeOf}
-use Rattle.entry.proofs.Opens.{heard-says}
-use Rattle.entry.proofs.Calls.{leaves-as, reply-is}
+use Rattle.wiping.specs.Onward.{Short}
+use Rattle.entry.proofs.Calls.{leaves-as}
 
-heard-at-requires : tie.Need-heard-at-requires
-heard-at-requires c κs = search needs
+-- src/replies.rt:74:9
+next-of-requires : tie.Need-next-of-requires
+next-of-requires c κs = search needs
 
-enum-known-h : tie.Need-enum-known-h
-enum-known-h c = search needs
+-- src/replies.rt:76:18
+enum-known-n : tie.Need-enum-known-n
+enum-known-n c = search needs
 
-go-on-requires : tie.Need-go-on-requires
-go-on-requires c κs = heard-says (now (c .before .before .before .before .before .before .before .before .before .before .before .before .before .args .state)) (length (now (c .before .before .before .before .before .before .before .before .before .before .before .before .before .args .transfer))) (length (now (c .before .before .before .before .before .before .before .before .before .before .before .before .before .args .reply))) (length (now (c .before .before .before .before .before .before .before .before .before .before .before .before .before .args .lent))) (length (now (c .before .before .before .before .before .before .before .before .before .before .before .before .before .args .out))) _ _ _ (decodeOf (now (c .before .before .before .before .before .before .before .before .before .before .before .before .before .args .state))) refl (sym (c .before .before .before .before .before .before .heard-at .ensures) ∙ c .before .before .before .before .h .given .1)
+-- src/replies.rt:76:27
+leave-requires : tie.Need-leave-requires
+leave-requires c κs = let h = subst (Short (now (c .before .before .before .before .before .before .before .before .before .before .before .before .before .before .args .state)) (now (c .before .before .before .before .before .before .before .before .before .before .before .before .before .before .args .transfer)) (now (c .before .before .before .before .before .before .before .before .before .before .before .before .before .before .args .reply)) (now (c .before .before .before .before .before .before .before .before .before .before .before .before .before .before .args .lent)) (now (c .before .before .before .before .before .before .before .before .before .before .before .before .before .before .args .out)) (c .before .before .before .before .before .before .before .before .before .before .before .before .before .before .args .ack)) (c .before .before .before .n .given .1) (c .before .before .before .before .before .next-of .ensures) in (h .0, h .1)
 
-enum-known-h-2 : tie.Need-enum-known-h-2
-enum-known-h-2 c = search needs
+-- src/replies.rt:77:31
+enum-told : tie.Need-enum-told
+enum-told c = search needs
 
-step-requires : tie.Need-step-requires
-step-requires c κs = search needs
+-- src/replies.rt:77:22
+by-stage-requires : tie.Need-by-stage-requires
+by-stage-requires c κs = search needs
 
+-- src/replies.rt:64:1
 same-length : tie.Need-same-length
 same-length c = search needs
 
+-- src/replies.rt:64:1
 same-length-2 : tie.Need-same-length-2
 same-length-2 c = search needs
 
+-- src/replies.rt:64:1
 same-length-3 : tie.Need-same-length-3
 same-length-3 c = search needs
 
+-- src/replies.rt:64:1
 returns : tie.Need-returns
-returns c = leaves-as _ _ (reply-is (now (c .before .before .before .before .before .before .before .before .before .before .before .before .before .before .before .before .before .before .before .before .args .state)) (now (c .before .before .before .before .before .before .before .before .before .before .before .before .before .before .before .before .before .before .before .before .args .transfer)) (now (c .before .before .before .before .before .before .before .before .before .before .before .before .before .before .before .before .before .before .before .before .args .reply)) (now (c .before .before .before .before .before .before .before .before .before .before .before .before .before .before .before .before .before .before .before .before .args .lent)) (now (c .before .before .before .before .before .before .before .before .before .before .before .before .before .before .before .before .before .before .before .before .args .out)) (c .before .before .before .before .before .before .before .before .before .before .before .before .before .before .before .before .before .before .before .before .args .ack) (c .before .before .before .before .before .before .before .before .before .before .before .before .before .heard-at .result) _ (c .before .before .before .before .before .before .before .before .before .before .before .before .before .heard-at .ensures) (c .before .before .before .before .before .before .before .before .before .before .before .h .given .1)) _ _ _ _ (c .before .before .before .before .before .before .go-on .ensures)
+returns c = let h = subst (Short (now (c .before .before .before .before .before .before .before .before .before .before .before .before .before .before .before .before .before .before .before .args .state)) (now (c .before .before .before .before .before .before .before .before .before .before .before .before .before .before .before .before .before .before .before .args .transfer)) (now (c .before .before .before .before .before .before .before .before .before .before .before .before .before .before .before .before .before .before .before .args .reply)) (now (c .before .before .before .before .before .before .before .before .before .before .before .before .before .before .before .before .before .before .before .args .lent)) (now (c .before .before .before .before .before .before .before .before .before .before .before .before .before .before .before .before .before .before .before .args .out)) (c .before .before .before .before .before .before .before .before .before .before .before .before .before .before .before .before .before .before .before .args .ack)) (c .before .before .before .before .before .before .before .before .n .given .1) (c .before .before .before .before .before .before .before .before .before .before .next-of .ensures) in leaves-as _ _ (sym (h .2)) _ _ _ _ (record { step = c .before .before .before .before .leave .ensures .0; state = c .before .before .before .before .leave .ensures .1 .0; transfer = c .before .before .before .before .leave .ensures .1 .1; reply = refl })
 
+-- src/replies.rt:64:1
 same-length-4 : tie.Need-same-length-4
 same-length-4 c = search needs
 
+-- src/replies.rt:64:1
+same-length-5 : tie.Need-same-length-5
+same-length-5 c = search needs
+
+-- src/replies.rt:64:1
+same-length-6 : tie.Need-same-length-6
+same-length-6 c = search needs
+
+-- src/replies.rt:64:1
 returns-2 : tie.Need-returns-2
-returns-2 c = leaves-as _ _ (reply-is (now (c .before .before .before .before .before .before .before .before .before .before .before .args .state)) (now (c .before .before .before .before .before .before .before .before .before .before .before .args .transfer)) (now (c .before .before .before .before .before .before .before .before .before .before .before .args .reply)) (now (c .before .before .before .before .before .before .before .before .before .before .before .args .lent)) (now (c .before .before .before .before .before .before .before .before .before .before .before .args .out)) (c .before .before .before .before .before .before .before .before .before .before .before .args .ack) (c .before .before .before .before .heard-at .result) _ (c .before .before .before .before .heard-at .ensures) (c .before .before .h2 .given .1)) _ _ _ _ (record { step = c .step .ensures; state = refl; transfer = refl; reply = refl })
+returns-2 c = c .before .before .before .before .before .before .by-stage .ensures
 
 pub reply-spec : {M : Type 1} → statement M
 reply-spec =
     tie.close
     (tie.spec
-    heard-at-requires
-    enum-known-h
-    go-on-requires
-    enum-known-h-2
-    step-requires
+    next-of-requires
+    enum-known-n
+    leave-requires
+    enum-told
+    by-stage-requires
     same-length
     same-length-2
     same-length-3
     returns
     same-length-4
+    same-length-5
+    same-length-6
     returns-2)

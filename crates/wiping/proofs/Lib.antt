@@ -1,0 +1,2 @@
+pub mod Wipings
+pub mod Shorts
