@@ -1,3 +1,4 @@
 pub mod Asks
 pub mod Opens
 pub mod Calls
+pub mod Counts

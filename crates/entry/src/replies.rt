@@ -4,15 +4,14 @@ ghost use lib.ListN.{length};
 ghost use Rattle.telling.specs.Left.{Leaves, repliedLeft, replyLeft, nextLeft, newStep, newState, dirtyDecoded, dirtyStep};
 ghost use Rattle.telling.specs.declared.opening.Heard.the-variants.{Goes};
 ghost use Rattle.entry.specs.Going.{Going, Inside};
+use crate::rows::stage_count;
 use session::session::Session;
-use session::steps::counted;
 use settling::ask;
 use settling::settle;
 use settling::store;
 use state::bytes::STATE_LEN;
 use state::decode::Decoded;
 use state::decode::decode;
-use steps::stage_ask;
 use steps::stage_step;
 use telling::opening::Heard;
 use telling::opening::heard_at;
@@ -37,7 +36,7 @@ fn go_on(
     requires { ⌜ Going (length (now state)) (length (now transfer)) (length (now reply)) (length (now lent)) (length (now out)) m rows st ⌝ }
     ensures { λ r. ⌜ Leaves (repliedLeft (Goes m rows st) (now (state .entry)) (now (transfer .entry)) (now (reply .entry)) (now (lent .entry)) (now (out .entry)) ack) r (now (state .exit)) (now (transfer .exit)) (now (reply .exit)) ⌝ }
 {
-    let n = rows + counted(stage_ask(st, lent.len()), ack);
+    let n = rows + stage_count(st, ack);
     let t = stage_step(st, m, ack, reply, lent, out);
     settle(state, transfer, reply, lent, n, t)
 }

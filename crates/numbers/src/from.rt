@@ -20,7 +20,7 @@ use writing::write::Check;
 use writing::write::Piece;
 use writing::write::Write;
 
-fn wait_from(c: Code) -> Wait
+pub fn wait_from(c: Code) -> Wait
     ensures { λ r. ⌜ r ≡ waitFrom c ⌝ }
 {
     if c.inner == 1 {
@@ -69,7 +69,7 @@ fn store_from(c: Code) -> Store
     Store::Wait(wait_from(c))
 }
 
-fn setup_from(c: Code) -> Setup
+pub fn setup_from(c: Code) -> Setup
     ensures { λ r. ⌜ r ≡ setupFrom c ⌝ }
 {
     if c.phase == 1 {
@@ -87,7 +87,7 @@ fn setup_from(c: Code) -> Setup
     Setup::Store(job_from(c), store_from(c))
 }
 
-fn switch_from(c: Code) -> Switch
+pub fn switch_from(c: Code) -> Switch
     ensures { λ r. ⌜ r ≡ switchFrom c ⌝ }
 {
     let on = c.which == 1;
@@ -125,7 +125,7 @@ pub fn rows_from(p: Place) -> Rows
     }
 }
 
-fn scrub_from(c: Code, p: Place) -> Scrub
+pub fn scrub_from(c: Code, p: Place) -> Scrub
     ensures { λ r. ⌜ r ≡ scrubFrom c p ⌝ }
 {
     if c.phase == 1 {
@@ -161,7 +161,7 @@ fn check_from(c: Code, p: Place) -> Check
     }
 }
 
-fn write_from(c: Code, p: Place) -> Write
+pub fn write_from(c: Code, p: Place) -> Write
     ensures { λ r. ⌜ r ≡ writeFrom c p ⌝ }
 {
     if c.phase == 1 {

@@ -19,13 +19,13 @@ use wipe::scrub::Rows;
 use wipe::scrub::Scrub;
 use writing::write::Write;
 
-fn bit(b: bool) -> u8
+pub fn bit(b: bool) -> u8
     ensures { λ r. ⌜ (r ≡ bitOf b) × (r ≤ 1) ⌝ }
 {
     if b { 1 } else { 0 }
 }
 
-fn code(phase: u8, inner: u8, which: u8, count: u8) -> Code
+pub fn code(phase: u8, inner: u8, which: u8, count: u8) -> Code
     ensures { λ r. ⌜ r ≡ record { phase = phase; inner = inner; which = which; count = count } ⌝ }
 {
     Code {
@@ -36,7 +36,7 @@ fn code(phase: u8, inner: u8, which: u8, count: u8) -> Code
     }
 }
 
-fn wait_code(phase: u8, which: u8, w: Wait) -> Code
+pub fn wait_code(phase: u8, which: u8, w: Wait) -> Code
     ensures { λ r. ⌜ r ≡ waitCode phase which w ⌝ }
 {
     match w {
@@ -76,7 +76,7 @@ fn store_code(j: Job, s: Store) -> Code
     }
 }
 
-fn setup_code(s: Setup) -> Code
+pub fn setup_code(s: Setup) -> Code
     ensures { λ r. ⌜ r ≡ setupCode s ⌝ }
 {
     match s {
@@ -88,7 +88,7 @@ fn setup_code(s: Setup) -> Code
     }
 }
 
-fn switch_code(s: Switch) -> Code
+pub fn switch_code(s: Switch) -> Code
     ensures { λ r. ⌜ r ≡ switchCode s ⌝ }
 {
     match s {
@@ -110,7 +110,7 @@ pub fn scrub_code(stuck: u8, s: Scrub) -> Code
     }
 }
 
-fn write_code(w: Write) -> Code
+pub fn write_code(w: Write) -> Code
     ensures { λ r. ⌜ r ≡ writeCode w ⌝ }
 {
     match w {
@@ -120,7 +120,7 @@ fn write_code(w: Write) -> Code
     }
 }
 
-fn place(left: usize, at: usize, end: usize, row: usize) -> Place
+pub fn place(left: usize, at: usize, end: usize, row: usize) -> Place
     ensures { λ r. ⌜ r ≡ record { bits = 0; left = left; at = at; end = end; row = row } ⌝ }
 {
     Place {
@@ -161,7 +161,7 @@ pub fn scrub_place(s: Scrub) -> Place
     }
 }
 
-fn write_place(w: Write) -> Place
+pub fn write_place(w: Write) -> Place
     ensures { λ r. ⌜ r ≡ writePlace w ⌝ }
 {
     match w {

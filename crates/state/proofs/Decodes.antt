@@ -15,12 +15,11 @@ use Rattle.numbers.specs.declared.flat.Flat.{Flat}
 use Rattle.state.specs.declared.decode.Decoded.{Decoded}
 use Rattle.state.specs.declared.decode.Decoded.the-variants.{State, Nothing}
 
-module _ (f g : Flat) (s : Session) (b d : Bool) (es : s ≡ sessionFrom f) (eg : g ≡ flatten s) (eb : b ≡ sameFlat g f) (ed : d ≡ sound s) where
+module _ (f : Flat) (s : Session) (b d : Bool) (es : s ≡ sessionFrom f) (eb : b ≡ sameFlat (flatten (sessionFrom f)) f) (ed : d ≡ sound s) where
   decode-either : pick (b && d) (State s) Nothing ≡ decodeFlat f
   decode-either =
-      let x : b ≡ sameFlat (flatten (sessionFrom f)) f = eb ∙ ap (λ (q : Flat). sameFlat q f) (eg ∙ ap flatten es) in
       let y : d ≡ sound (sessionFrom f) = ed ∙ ap sound es in
-      λ i. pick (x i && y i) (State (es i)) Nothing
+      λ i. pick (eb i && y i) (State (es i)) Nothing
 
   pub decode-yes : (b && d) ≡ true → State s ≡ decodeFlat f
   decode-yes h = sym (ap (λ (t : Bool). pick t (State s) Nothing) h) ∙ decode-either

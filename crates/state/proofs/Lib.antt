@@ -1,1 +1,2 @@
 pub mod Decodes
+pub mod Owns

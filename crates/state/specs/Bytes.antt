@@ -5,7 +5,7 @@
 --   flatOf l          == the numbers that the bytes l are; codeIn, placeIn: two of its parts
 --   twoAt l i         == the number whose low byte is at i
 --   encode s          == the state's bytes of the session s
---   sameFlat a b      == the numbers are the same; sameCode, samePlace
+--   sameFlat a b      == the numbers are the same; sameCode, samePlace. sameStage st tag c p: a stage and its numbers
 --   decodeOf l        == the session that the bytes l are a state of; nothing where they are none that calls leave
 use Prim.Native.Nat.{ℕ, _+_, _*_, _/_, _%_}
 use mathlib.Core.List.{List, [], _∷_}
@@ -15,7 +15,8 @@ use lib.ListN.{length, getD}
 use Rattle.slices.specs.Pick.{pick}
 use Rattle.session.specs.Sound.{sound}
 use Rattle.session.specs.declared.session.Session.{Session}
-use Rattle.numbers.specs.Flat.{flatten}
+use Rattle.numbers.specs.Flat.{stageTag, stageCode, stagePlace, flatten}
+use Rattle.turns.specs.declared.stage.Stage.{Stage}
 use Rattle.numbers.specs.From.{sessionFrom}
 use Rattle.numbers.specs.declared.flat.Code.{Code}
 use Rattle.numbers.specs.declared.flat.Place.{Place}
@@ -59,6 +60,10 @@ samePlace a b =
 -- the mark, the rows and the data's length are read as they stand
 abbrev pub sameFlat : Flat → Flat → Bool
 sameFlat a b = eqb (a .stage) (b .stage) && sameCode (a .code) (b .code) && samePlace (a .place) (b .place)
+
+-- the tag and the parts of the numbers of a stage are these
+abbrev pub sameStage : Stage → ℕ → Code → Place → Bool
+sameStage st tag c p = eqb (stageTag st) tag && sameCode (stageCode st) c && samePlace (stagePlace st) p
 
 abbrev pub decodeFlat : Flat → Decoded
 decodeFlat f = pick (sameFlat (flatten (sessionFrom f)) f && sound (sessionFrom f)) (State (sessionFrom f)) Nothing

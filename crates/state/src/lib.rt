@@ -1,3 +1,4 @@
 // A session's state in twenty lent bytes.
 pub mod bytes;
 pub mod decode;
+pub mod own;

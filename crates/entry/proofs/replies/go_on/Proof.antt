@@ -1,49 +1,58 @@
 use borrow.Author.Needs.{needs}
 use Rattle.entry.proofs.replies.go_on.Statement.{statement}
 use Rattle.entry.proofs.replies.go_on.Tie as tie
-use mathlib.Core.Path.{subst, sym}
+use Rattle.entry.proofs.replies.go_on.Reads as reads
+use Rattle.entry.proofs.replies.go_on.Lts as lts
+use Rattle.entry.proofs.rows.stage_count.Reads as stage-count-reads
+use Rattle.settling.proofs.settle.Reads as settle-reads
+use Rattle.steps.proofs.stage_step.Reads as stage-step-reads
+use mathlib.Core.Path.{refl, subst, sym}
 use denote.Ref.{now}
 use lib.ListN.{length}
+use Rattle.turns.specs.Turns.{stageAsk}
 use Rattle.turns.specs.Able.{gotBy}
-use Rattle.telling.specs.Fit.{StageFits, TurnFits}
-use Rattle.entry.proofs.Opens.{next-fits, steps-able, goes-on}
+use Rattle.telling.specs.Fit.{TurnFits}
+use Rattle.entry.proofs.Opens.{steps-able, goes-on}
 use Rattle.entry.proofs.Calls.{leaves-as, go-is, one-more}
 use native.Mathlib.Omega.{arith}
 
-stage-ask-requires : tie.Need-stage-ask-requires
-unfolding StageFits
-stage-ask-requires c κs = next-fits (length (now (c .before .before .before .before .before .args .state))) (length (now (c .before .before .before .before .before .args .transfer))) (length (now (c .before .before .before .before .before .args .reply))) (length (now (c .before .before .before .before .before .args .lent))) (length (now (c .before .before .before .before .before .args .out))) (c .before .before .before .before .before .args .m) (c .before .before .before .before .before .args .rows) (c .before .before .before .before .before .args .st) (c .before .before .before .before .before .pre) .1 .0
+-- src/replies.rt:39:20
+stage-count-requires : tie.Need-stage-count-requires
+stage-count-requires c κs = search needs
 
-counted-requires : tie.Need-counted-requires
-counted-requires c κs = search needs
-
+-- src/replies.rt:39:13
 add-n : tie.Need-add-n
-add-n c = let h = one-more (length (now (c .before .before .before .before .before .before .before .args .state))) (length (now (c .before .before .before .before .before .before .before .args .transfer))) (length (now (c .before .before .before .before .before .before .before .args .reply))) (length (now (c .before .before .before .before .before .before .before .args .lent))) (length (now (c .before .before .before .before .before .before .before .args .out))) (c .before .before .before .before .before .before .before .args .m) (c .before .before .before .before .before .before .before .args .rows) (c .before .before .before .before .before .before .before .args .st) (c .before .stage-ask .result) (c .before .before .before .before .before .before .before .args .ack) (c .counted .result) (c .before .before .before .before .before .before .before .pre) (c .counted .ensures) in omega (arith, h)
+add-n c = let h = one-more (length (now (c .before .before .before .before .before .before .args .state))) (length (now (c .before .before .before .before .before .before .args .transfer))) (length (now (c .before .before .before .before .before .before .args .reply))) (length (now (c .before .before .before .before .before .before .args .lent))) (length (now (c .before .before .before .before .before .before .args .out))) (c .before .before .before .before .before .before .args .m) (c .before .before .before .before .before .before .args .rows) (c .before .before .before .before .before .before .args .st) (stageAsk (length (now (c .before .before .before .before .before .before .args .lent))) (c .before .before .before .before .before .before .args .st)) (c .before .before .before .before .before .before .args .ack) (c .stage-count .result) (c .before .before .before .before .before .before .pre) (c .stage-count .ensures (length (now (c .before .before .before .before .before .before .args .lent)))) in omega (arith, h)
 
+-- src/replies.rt:40:9
 stage-step-requires : tie.Need-stage-step-requires
-stage-step-requires c κs = steps-able (length (now (c .before .before .before .before .before .before .before .before .args .state))) (length (now (c .before .before .before .before .before .before .before .before .args .transfer))) (length (now (c .before .before .before .before .before .before .before .before .args .reply))) (length (now (c .before .before .before .before .before .before .before .before .args .lent))) (length (now (c .before .before .before .before .before .before .before .before .args .out))) (c .before .before .before .before .before .before .before .before .args .m) (c .before .before .before .before .before .before .before .before .args .rows) (c .before .before .before .before .before .before .before .before .args .st) (c .before .before .before .before .before .before .before .before .pre)
+stage-step-requires c κs = steps-able (length (now (c .before .before .before .before .before .before .before .args .state))) (length (now (c .before .before .before .before .before .before .before .args .transfer))) (length (now (c .before .before .before .before .before .before .before .args .reply))) (length (now (c .before .before .before .before .before .before .before .args .lent))) (length (now (c .before .before .before .before .before .before .before .args .out))) (c .before .before .before .before .before .before .before .args .m) (c .before .before .before .before .before .before .before .args .rows) (c .before .before .before .before .before .before .before .args .st) (c .before .before .before .before .before .before .before .pre)
 
+-- src/replies.rt:41:5
 settle-requires : tie.Need-settle-requires
-settle-requires c κs = (c .before .before .before .before .before .before .before .before .before .before .before .before .pre .state, c .before .before .before .before .before .before .before .before .before .before .before .before .pre .transfer, c .before .before .before .before .before .before .before .before .before .before .before .before .pre .reply, one-more (length (now (c .before .before .before .before .before .before .before .before .before .before .before .before .args .state))) (length (now (c .before .before .before .before .before .before .before .before .before .before .before .before .args .transfer))) (length (now (c .before .before .before .before .before .before .before .before .before .before .before .before .args .reply))) (length (now (c .before .before .before .before .before .before .before .before .before .before .before .before .args .lent))) (length (now (c .before .before .before .before .before .before .before .before .before .before .before .before .args .out))) (c .before .before .before .before .before .before .before .before .before .before .before .before .args .m) (c .before .before .before .before .before .before .before .before .before .before .before .before .args .rows) (c .before .before .before .before .before .before .before .before .before .before .before .before .args .st) (c .before .before .before .before .before .before .stage-ask .result) (c .before .before .before .before .before .before .before .before .before .before .before .before .args .ack) (c .before .before .before .before .before .counted .result) (c .before .before .before .before .before .before .before .before .before .before .before .before .pre) (c .before .before .before .before .before .counted .ensures), subst (TurnFits (length (now (c .before .before .before .before .before .before .before .before .before .before .before .before .args .lent)))) (sym (c .before .before .before .stage-step .ensures)) (goes-on (now (c .before .before .before .before .before .before .before .before .before .before .before .before .args .lent)) (length (now (c .before .before .before .before .before .before .before .before .before .before .before .before .args .out))) (length (now (c .before .before .before .before .before .before .before .before .before .before .before .before .args .state))) (length (now (c .before .before .before .before .before .before .before .before .before .before .before .before .args .transfer))) (length (now (c .before .before .before .before .before .before .before .before .before .before .before .before .args .reply))) (c .before .before .before .before .before .before .before .before .before .before .before .before .args .m) (c .before .before .before .before .before .before .before .before .before .before .before .before .args .rows) (c .before .before .before .before .before .before .before .before .before .before .before .before .args .st) (c .before .before .before .before .before .before .before .before .before .before .before .before .args .ack) (gotBy (c .before .before .before .before .before .before .before .before .before .before .before .before .args .st) (now (c .before .before .before .before .before .before .before .before .before .before .before .before .args .reply)) (now (c .before .before .before .before .before .before .before .before .before .before .before .before .args .out))) (c .before .before .before .before .before .before .before .before .before .before .before .before .pre)))
+settle-requires c κs = (c .before .before .before .before .before .before .before .before .before .before .before .pre .state, c .before .before .before .before .before .before .before .before .before .before .before .pre .transfer, c .before .before .before .before .before .before .before .before .before .before .before .pre .reply, one-more (length (now (c .before .before .before .before .before .before .before .before .before .before .before .args .state))) (length (now (c .before .before .before .before .before .before .before .before .before .before .before .args .transfer))) (length (now (c .before .before .before .before .before .before .before .before .before .before .before .args .reply))) (length (now (c .before .before .before .before .before .before .before .before .before .before .before .args .lent))) (length (now (c .before .before .before .before .before .before .before .before .before .before .before .args .out))) (c .before .before .before .before .before .before .before .before .before .before .before .args .m) (c .before .before .before .before .before .before .before .before .before .before .before .args .rows) (c .before .before .before .before .before .before .before .before .before .before .before .args .st) (stageAsk (length (now (c .before .before .before .before .before .before .before .before .before .before .before .args .lent))) (c .before .before .before .before .before .before .before .before .before .before .before .args .st)) (c .before .before .before .before .before .before .before .before .before .before .before .args .ack) (c .before .before .before .before .before .stage-count .result) (c .before .before .before .before .before .before .before .before .before .before .before .pre) (c .before .before .before .before .before .stage-count .ensures (length (now (c .before .before .before .before .before .before .before .before .before .before .before .args .lent)))), subst (TurnFits (length (now (c .before .before .before .before .before .before .before .before .before .before .before .args .lent)))) (sym (c .before .before .before .stage-step .ensures)) (goes-on (now (c .before .before .before .before .before .before .before .before .before .before .before .args .lent)) (length (now (c .before .before .before .before .before .before .before .before .before .before .before .args .out))) (length (now (c .before .before .before .before .before .before .before .before .before .before .before .args .state))) (length (now (c .before .before .before .before .before .before .before .before .before .before .before .args .transfer))) (length (now (c .before .before .before .before .before .before .before .before .before .before .before .args .reply))) (c .before .before .before .before .before .before .before .before .before .before .before .args .m) (c .before .before .before .before .before .before .before .before .before .before .before .args .rows) (c .before .before .before .before .before .before .before .before .before .before .before .args .st) (c .before .before .before .before .before .before .before .before .before .before .before .args .ack) (gotBy (c .before .before .before .before .before .before .before .before .before .before .before .args .st) (now (c .before .before .before .before .before .before .before .before .before .before .before .args .reply)) (now (c .before .before .before .before .before .before .before .before .before .before .before .args .out))) (c .before .before .before .before .before .before .before .before .before .before .before .pre)))
 
+-- src/replies.rt:25:1
 same-length : tie.Need-same-length
 same-length c = search needs
 
+-- src/replies.rt:25:1
 same-length-2 : tie.Need-same-length-2
 same-length-2 c = search needs
 
+-- src/replies.rt:25:1
 same-length-3 : tie.Need-same-length-3
 same-length-3 c = search needs
 
+-- src/replies.rt:25:1
 returns : tie.Need-returns
-returns c = leaves-as _ _ (go-is (now (c .before .before .before .before .before .before .before .before .before .before .before .before .before .before .before .before .before .before .before .args .state)) (now (c .before .before .before .before .before .before .before .before .before .before .before .before .before .before .before .before .before .before .before .args .transfer)) (now (c .before .before .before .before .before .before .before .before .before .before .before .before .before .before .before .before .before .before .before .args .reply)) (now (c .before .before .before .before .before .before .before .before .before .before .before .before .before .before .before .before .before .before .before .args .lent)) (now (c .before .before .before .before .before .before .before .before .before .before .before .before .before .before .before .before .before .before .before .args .out)) (c .before .before .before .before .before .before .before .before .before .before .before .before .before .before .before .before .before .before .before .args .m) (c .before .before .before .before .before .before .before .before .before .before .before .before .before .before .before .before .before .before .before .args .rows) (c .before .before .before .before .before .before .before .before .before .before .before .before .before .before .before .before .before .before .before .args .st) (c .before .before .before .before .before .before .before .before .before .before .before .before .before .before .before .before .before .before .before .args .ack) (c .before .before .before .before .before .before .before .before .before .before .before .before .before .stage-ask .result) (c .before .before .before .before .before .before .before .before .before .before .before .before .counted .result) (c .before .before .before .before .before .before .before .before .before .before .stage-step .result) (c .before .before .before .before .before .before .before .before .before .before .before .before .before .stage-ask .ensures) (c .before .before .before .before .before .before .before .before .before .before .before .before .counted .ensures) (c .before .before .before .before .before .before .before .before .before .before .stage-step .ensures)) _ _ _ _ (c .before .before .before .before .before .before .settle .ensures)
+returns c = leaves-as _ _ (go-is (now (c .before .before .before .before .before .before .before .before .before .before .before .before .before .before .before .before .before .before .args .state)) (now (c .before .before .before .before .before .before .before .before .before .before .before .before .before .before .before .before .before .before .args .transfer)) (now (c .before .before .before .before .before .before .before .before .before .before .before .before .before .before .before .before .before .before .args .reply)) (now (c .before .before .before .before .before .before .before .before .before .before .before .before .before .before .before .before .before .before .args .lent)) (now (c .before .before .before .before .before .before .before .before .before .before .before .before .before .before .before .before .before .before .args .out)) (c .before .before .before .before .before .before .before .before .before .before .before .before .before .before .before .before .before .before .args .m) (c .before .before .before .before .before .before .before .before .before .before .before .before .before .before .before .before .before .before .args .rows) (c .before .before .before .before .before .before .before .before .before .before .before .before .before .before .before .before .before .before .args .st) (c .before .before .before .before .before .before .before .before .before .before .before .before .before .before .before .before .before .before .args .ack) (stageAsk (length (now (c .before .before .before .before .before .before .before .before .before .before .before .before .before .before .before .before .before .before .args .lent))) (c .before .before .before .before .before .before .before .before .before .before .before .before .before .before .before .before .before .before .args .st)) (c .before .before .before .before .before .before .before .before .before .before .before .before .stage-count .result) (c .before .before .before .before .before .before .before .before .before .before .stage-step .result) refl (c .before .before .before .before .before .before .before .before .before .before .before .before .stage-count .ensures (length (now (c .before .before .before .before .before .before .before .before .before .before .before .before .before .before .before .before .before .before .args .lent)))) (c .before .before .before .before .before .before .before .before .before .before .stage-step .ensures)) _ _ _ _ (c .before .before .before .before .before .before .settle .ensures)
 
 pub go-on-spec : {M : Type 1} → statement M
 go-on-spec =
     tie.close
     (tie.spec
-    stage-ask-requires
-    counted-requires
+    stage-count-requires
     add-n
     stage-step-requires
     settle-requires

@@ -1,33 +1,33 @@
 use borrow.Author.Needs.{needs}
 use Rattle.state.proofs.decode.decode_flat.Statement.{statement}
 use Rattle.state.proofs.decode.decode_flat.Tie as tie
+use Rattle.state.proofs.decode.decode_flat.Reads as reads
+use Rattle.state.proofs.decode.decode_flat.Lts as lts
+use Rattle.numbers.proofs.from.session_from.Reads as session-from-reads
+use Rattle.sound.proofs.sound.Reads as sound-reads
+use Rattle.state.proofs.own.own.Reads as own-reads
 use Rattle.state.proofs.Decodes.{decode-yes, decode-no}
 
+-- src/decode.rt:22:9
 session-from-requires : tie.Need-session-from-requires
 session-from-requires c κs = search needs
 
-flatten-requires : tie.Need-flatten-requires
-flatten-requires c κs = search needs
+-- src/decode.rt:23:8
+own-requires : tie.Need-own-requires
+own-requires c κs = search needs
 
-same-flat-requires : tie.Need-same-flat-requires
-same-flat-requires c κs = search needs
-
+-- src/decode.rt:23:17
 sound-requires : tie.Need-sound-requires
 sound-requires c κs = search needs
 
+-- src/decode.rt:19:1
 returns : tie.Need-returns
-returns c = decode-yes (c .before .before .before .before .before .args .f) (c .before .before .before .flatten .result) (c .before .before .before .before .session-from .result) (c .before .before .same-flat .result) (c .before .sound .result) (c .before .before .before .before .session-from .ensures) (c .before .before .before .flatten .ensures) (c .before .before .same-flat .ensures) (c .before .sound .ensures) (c .if1 .taken)
+returns c = decode-yes (c .before .before .before .before .args .f) (c .before .before .before .session-from .result) (c .before .before .own .result) (c .before .sound .result) (c .before .before .before .session-from .ensures) (c .before .before .own .ensures) (c .before .sound .ensures) (c .if1 .taken)
 
+-- src/decode.rt:19:1
 returns-2 : tie.Need-returns-2
-returns-2 c = decode-no (c .before .before .before .before .before .args .f) (c .before .before .before .flatten .result) (c .before .before .before .before .session-from .result) (c .before .before .same-flat .result) (c .before .sound .result) (c .before .before .before .before .session-from .ensures) (c .before .before .before .flatten .ensures) (c .before .before .same-flat .ensures) (c .before .sound .ensures) (c .if1 .left)
+returns-2 c = decode-no (c .before .before .before .before .args .f) (c .before .before .before .session-from .result) (c .before .before .own .result) (c .before .sound .result) (c .before .before .before .session-from .ensures) (c .before .before .own .ensures) (c .before .sound .ensures) (c .if1 .left)
 
 pub decode-flat-spec : {M : Type 1} → statement M
 decode-flat-spec =
-    tie.close
-    (tie.spec
-    session-from-requires
-    flatten-requires
-    same-flat-requires
-    sound-requires
-    returns
-    returns-2)
+    tie.close (tie.spec session-from-requires own-requires sound-requires returns returns-2)
