@@ -94,7 +94,7 @@ fn refusals_in_order(cases: &mut Cases) -> io::Result<()> {
 
 fn not_utf8(cases: &mut Cases) -> io::Result<()> {
     for text in
-        ["80", "c3", "c080", "eda080", "f4908080", "41ff", "e282ac", "f48fbfbf", "c3a9", "-"]
+        ["80", "ff", "c3", "c080", "eda080", "f4908080", "41ff", "e282ac", "f48fbfbf", "c3a9", "-"]
     {
         cases.add(format_args!("text_image 40 8184 {text}"))?;
         cases.add(format_args!("uri_image 40 8184 255 {text}"))?;

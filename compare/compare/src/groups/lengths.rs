@@ -34,7 +34,7 @@ fn fixed(cases: &mut Cases) -> io::Result<()> {
         }
         cases.add(format_args!("mime_image_len 24 {payload}"))?;
     }
-    for text in [MOST - 1, MOST - 2, MOST - 3] {
+    for text in [MOST, MOST - 1, MOST - 2, MOST - 3] {
         cases.add(format_args!("image_len {text}"))?;
         cases.add(format_args!("text_image_len {text}"))?;
     }
