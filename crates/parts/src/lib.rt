@@ -13,6 +13,7 @@ ghost use Rattle.layout.specs.Block.{messageHead};
 ghost use Rattle.layout.specs.Record.{recordHead, whole};
 ghost use Rattle.layout.specs.Image.{front, image};
 use layout::lengths::head_len;
+use slices::copy_long;
 use slices::copy_to;
 use slices::put;
 use slices::put16;
@@ -89,6 +90,6 @@ pub fn put_image(
 {
     let a = put_front(out, area, format, kind, head.len() + rest.len());
     let b = copy_to(out, a, head);
-    let c = copy_to(out, b, rest);
+    let c = copy_long(out, b, rest);
     put(out, c, 0xFE)
 }

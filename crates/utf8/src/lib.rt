@@ -81,12 +81,15 @@ fn all_ascii(s: &[u8], i: usize, n: usize) -> bool
     ok
 }
 
-// The `n` bytes from `i` are a frequent piece of text: for 3 a character of the table's fourth row (most of Chinese, Japanese and
-// Korean), for 4 one of the seventh (most emoji), else ASCII alone.
+// The `n` bytes from `i` are a frequent piece of text: for 2 a character of the table's second row (Greek, Cyrillic, letters with
+// accents), for 3 one of the fourth (most of Chinese, Japanese and Korean), for 4 one of the seventh (most emoji), else ASCII alone.
 fn is_piece(s: &[u8], i: usize, n: usize) -> bool
     requires { ⌜ i + n ≤ length (now s) ⌝ }
     ensures { λ r. ⌜ (r ≡ true → Skips (now (s .entry)) i (i + n)) ⌝ }
 {
+    if n == 2 {
+        return inside(s[i], 0xC2, 0xDF) & (rest(s, i, 2, 0x80, 0xBF) == 2);
+    }
     if n == 3 {
         return inside(s[i], 0xE1, 0xEC) & (rest(s, i, 3, 0x80, 0xBF) == 3);
     }
@@ -123,6 +126,9 @@ fn past_like(s: &[u8], i: usize, n: usize) -> usize
             return i;
         }
         return past_pieces(s, i, 8);
+    }
+    if n == 2 {
+        return past_pieces(s, i, 2);
     }
     if n == 3 {
         return past_pieces(s, i, 3);

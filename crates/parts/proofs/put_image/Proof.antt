@@ -27,8 +27,8 @@ copy-to-requires c κs =
     let f = front-length (a .area) (a .format) (now (a .kind)) (length (now (a .head)) + length (now (a .rest))) in
     omega (arith, c .before .before .before .put-front, c .before .before .before .before .before .before .before .before .before .pre .2)
 
-copy-to-requires-2 : tie.Need-copy-to-requires-2
-copy-to-requires-2 c κs =
+copy-long-requires : tie.Need-copy-long-requires
+copy-long-requires c κs =
     let a = c .before .before .before .before .before .before .before .before .before .before .before .before .before .args in
     let f = front-length (a .area) (a .format) (now (a .kind)) (length (now (a .head)) + length (now (a .rest))) in
     omega (arith, c .before .before .before .before .before .before .before .put-front, c .before .before .before .copy-to, c .before .before .before .before .before .before .before .before .before .before .before .before .before .pre .2)
@@ -37,7 +37,7 @@ put-requires : tie.Need-put-requires
 put-requires c κs =
     let a = c .before .before .before .before .before .before .before .before .before .before .before .before .before .before .before .before .before .args in
     let f = front-length (a .area) (a .format) (now (a .kind)) (length (now (a .head)) + length (now (a .rest))) in
-    omega (arith, c .before .before .before .before .before .before .before .before .before .before .before .put-front, c .before .before .before .before .before .before .before .copy-to, c .before .before .before .copy-to2, c .before .before .before .before .before .before .before .before .before .before .before .before .before .before .before .before .before .pre .2)
+    omega (arith, c .before .before .before .before .before .before .before .before .before .before .before .put-front, c .before .before .before .before .before .before .before .copy-to, c .before .before .before .copy-long, c .before .before .before .before .before .before .before .before .before .before .before .before .before .before .before .before .before .pre .2)
 
 same-length : tie.Need-same-length
 same-length c = search needs
@@ -47,7 +47,7 @@ returns c =
     let a = c .before .before .before .before .before .before .before .before .before .before .before .before .before .before .before .before .before .before .before .before .args in
     let f = front-length (a .area) (a .format) (now (a .kind)) (length (now (a .head)) + length (now (a .rest))) in
     rw (← pieces (a .area) (a .format) (now (a .kind)) (now (a .head)) (now (a .rest)))
-    (chain (omega (arith, c .before .before .before .before .before .before .before .before .before .before .before .before .before .before .put-front, c .before .before .before .before .before .before .before .before .before .before .copy-to, c .before .before .before .before .before .before .copy-to2, c .before .before .before .before .before .before .before .before .before .before .before .before .before .before .before .before .before .before .before .before .pre .2)) (chain (omega (arith, c .before .before .before .before .before .before .before .before .before .before .before .before .before .before .put-front, c .before .before .before .before .before .before .before .before .before .before .copy-to, c .before .before .before .before .before .before .before .before .before .before .before .before .before .before .before .before .before .before .before .before .pre .2)) (chain (omega (arith, c .before .before .before .before .before .before .before .before .before .before .before .before .before .before .put-front, c .before .before .before .before .before .before .before .before .before .before .before .before .before .before .before .before .before .before .before .before .pre .2)) (c .before .before .before .before .before .before .before .before .before .before .before .before .before .before .put-front .ensures) (c .before .before .before .before .before .before .before .before .before .before .copy-to .ensures)) (c .before .before .before .before .before .before .copy-to2 .ensures)) (c .before .before .put .ensures))
+    (chain (omega (arith, c .before .before .before .before .before .before .before .before .before .before .before .before .before .before .put-front, c .before .before .before .before .before .before .before .before .before .before .copy-to, c .before .before .before .before .before .before .copy-long, c .before .before .before .before .before .before .before .before .before .before .before .before .before .before .before .before .before .before .before .before .pre .2)) (chain (omega (arith, c .before .before .before .before .before .before .before .before .before .before .before .before .before .before .put-front, c .before .before .before .before .before .before .before .before .before .before .copy-to, c .before .before .before .before .before .before .before .before .before .before .before .before .before .before .before .before .before .before .before .before .pre .2)) (chain (omega (arith, c .before .before .before .before .before .before .before .before .before .before .before .before .before .before .put-front, c .before .before .before .before .before .before .before .before .before .before .before .before .before .before .before .before .before .before .before .before .pre .2)) (c .before .before .before .before .before .before .before .before .before .before .before .before .before .before .put-front .ensures) (c .before .before .before .before .before .before .before .before .before .before .copy-to .ensures)) (c .before .before .before .before .before .before .copy-long .ensures)) (c .before .before .put .ensures))
 
 pub put-image-spec : {M : Type 1} → statement M
 put-image-spec =
@@ -56,7 +56,7 @@ put-image-spec =
     add-put-front
     put-front-requires
     copy-to-requires
-    copy-to-requires-2
+    copy-long-requires
     put-requires
     same-length
     returns)
