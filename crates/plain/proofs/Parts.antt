@@ -20,8 +20,8 @@ use lib.Dec.{eqb}
 use Rattle.slices.proofs.Cases.{lt-or-ge}
 use Rattle.layout.specs.Lengths.{sat}
 use Rattle.records.specs.declared.Record.{Record}
-use Rattle.records.specs.Parts.{partOf}
-use Rattle.records.proofs.Parts.{part-inside, part-outside}
+use Rattle.pieces.specs.Parts.{partOf}
+use Rattle.pieces.proofs.Parts.{part-inside, part-outside}
 use Rattle.contents.specs.declared.Part.the-variants.{At, Nothing}
 use Rattle.plain.specs.Places.{partAt, yes}
 use Rattle.plain.specs.Reading.{placesOf, recordOf}

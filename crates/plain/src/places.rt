@@ -1,6 +1,6 @@
 // The parts of a record: where each stands in the image, if it is all there.
 ghost use mathlib.Core.Path.{_≡_};
-ghost use Rattle.records.specs.Parts.{isOf};
+ghost use Rattle.pieces.specs.Parts.{isOf};
 ghost use Rattle.plain.specs.Reading.{recordOf};
 ghost use Rattle.plain.specs.Places.{partAt, partNumber, partNumbers, kindPart, idPart, payloadPart, yes};
 use crate::reading::record_of;
@@ -66,5 +66,5 @@ pub fn payload(image: &[u8], places: &[usize; 6], part: &mut [usize; 2]) -> u32
 pub fn is(image: &[u8], places: &[usize; 6], name: u8) -> u32
     ensures { λ r. ⌜ r ≡ yes (isOf (now (image .entry)) (recordOf (now (places .entry))) name) ⌝ }
 {
-    records::is(image, record_of(places), name) as u32
+    pieces::is(image, record_of(places), name) as u32
 }

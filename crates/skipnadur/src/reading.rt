@@ -3,7 +3,7 @@
 ghost use mathlib.Core.Path.{_≡_};
 ghost use lib.ListN.{length};
 ghost use Rattle.blocks.specs.Read.{readOf, numberOf};
-ghost use Rattle.records.specs.Parts.{isOf};
+ghost use Rattle.pieces.specs.Parts.{isOf};
 ghost use Rattle.walk.specs.Step.{startOf, entryOf, moved};
 ghost use Rattle.uri.specs.Prefixes.{prefixAnswer};
 ghost use Rattle.contents.specs.Contents.{textOf, uriOf};

@@ -1,11 +1,11 @@
 use borrow.Author.Needs.{needs}
-use Rattle.records.proofs.part.Statement.{statement}
-use Rattle.records.proofs.part.Tie as tie
+use Rattle.pieces.proofs.part.Statement.{statement}
+use Rattle.pieces.proofs.part.Tie as tie
 use mathlib.Core.Path.{_≡_, sym, ap, _∙_}
 use Prim.Native.Nat.{ℕ, _+_, _-_}
 use denote.Ref.{now}
 use lib.ListN.{take, drop}
-use Rattle.records.proofs.Parts.{part-inside, part-outside}
+use Rattle.pieces.proofs.Parts.{part-inside, part-outside}
 use native.Mathlib.Omega.{arith}
 
 sub-result : tie.Need-sub-result

@@ -1,10 +1,10 @@
 use borrow.Author.Needs.{needs}
-use Rattle.records.proofs.is.Statement.{statement}
-use Rattle.records.proofs.is.Tie as tie
+use Rattle.pieces.proofs.is.Statement.{statement}
+use Rattle.pieces.proofs.is.Tie as tie
 use denote.Ref.{now}
 use borrow.Author.Tests.{eq-eqb, ne-eqb}
-use Rattle.records.specs.Parts.{isOf}
-use Rattle.records.proofs.Parts.{is-one, is-other}
+use Rattle.pieces.specs.Parts.{isOf}
+use Rattle.pieces.proofs.Parts.{is-one, is-other}
 
 kind-requires : tie.Need-kind-requires
 kind-requires c κs = search needs

@@ -4,7 +4,6 @@
 --
 --   partOf s at len              == the len bytes of s at `at`, if they are all there; else none
 --   kindOf, idOf, payloadOf s r  == type name, id and payload of the record r in s, one after the other
---   endOf r                      == the place after the record r
 --   oneByte s b                  == s is the one byte b
 --   isOf s r name                == r is of format 1, and its type name is the one byte `name`
 use mathlib.Core.List.{List, [], _∷_}
@@ -26,9 +25,6 @@ idOf s r = partOf s (r .kind + r .«kind_len») (r .«id_len»)
 
 abbrev pub payloadOf : List ℕ → Record → List ℕ
 payloadOf s r = partOf s (r .kind + r .«kind_len» + r .«id_len») (r .«payload_len»)
-
-abbrev pub endOf : Record → ℕ
-endOf r = r .kind + r .«kind_len» + r .«id_len» + r .«payload_len»
 
 abbrev pub oneByte : List ℕ → ℕ → Bool
 oneByte [] b = false

@@ -1,11 +1,11 @@
 use borrow.Author.Needs.{needs}
-use Rattle.records.proofs.id.Statement.{statement}
-use Rattle.records.proofs.id.Tie as tie
+use Rattle.pieces.proofs.id.Statement.{statement}
+use Rattle.pieces.proofs.id.Tie as tie
 use mathlib.Core.Path.{ap, _∙_}
 use Prim.Native.Nat.{ℕ, _+_}
 use denote.Ref.{now}
-use Rattle.records.specs.Parts.{partOf}
-use Rattle.records.proofs.Parts.{part-sat}
+use Rattle.pieces.specs.Parts.{partOf}
+use Rattle.pieces.proofs.Parts.{part-sat}
 use native.Mathlib.Omega.{arith}
 
 after-requires : tie.Need-after-requires

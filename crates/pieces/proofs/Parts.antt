@@ -16,7 +16,7 @@ use lib.Dec.{leb, eqb}
 use Rattle.slices.specs.Pick.{pick}
 use Rattle.slices.proofs.Cases.{lt-or-ge}
 use Rattle.layout.specs.Lengths.{sat}
-use Rattle.records.specs.Parts.{partOf, oneByte}
+use Rattle.pieces.specs.Parts.{partOf, oneByte}
 
 pub part-inside : (s : List ℕ) (at len : ℕ) → at + len ≤ length s → partOf s at len ≡ take len (drop at s)
 unfolding partOf
