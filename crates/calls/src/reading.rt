@@ -11,7 +11,7 @@ fn text(out: &mut [u8], at: usize, image: &[u8], r: Record) -> usize {
     match contents::text(image, r) {
         Part::At(place, len) => {
             let a = said::text(out, at, b" text:");
-            said::bare_bytes(out, a, records::part(image, place, len))
+            said::bare_bytes(out, a, pieces::part(image, place, len))
         }
         Part::Nothing => said::text(out, at, b" none"),
     }
@@ -27,7 +27,7 @@ fn uri(out: &mut [u8], at: usize, image: &[u8], r: Record) -> usize {
             let a = said::text(out, at, b" uri:");
             let b = said::bare_bytes(out, a, front(&bytes, n));
             let d = said::text(out, b, b":");
-            said::bare_bytes(out, d, records::part(image, place, len))
+            said::bare_bytes(out, d, pieces::part(image, place, len))
         }
         Part::Nothing => said::text(out, at, b" none"),
     }
@@ -35,9 +35,9 @@ fn uri(out: &mut [u8], at: usize, image: &[u8], r: Record) -> usize {
 
 // A record's numbers and parts.
 fn parts(out: &mut [u8], at: usize, image: &[u8], r: Record) -> usize {
-    let a = said::bytes(out, at, records::kind(image, r));
-    let b = said::bytes(out, a, records::id(image, r));
-    said::bytes(out, b, records::payload(image, r))
+    let a = said::bytes(out, at, pieces::kind(image, r));
+    let b = said::bytes(out, a, pieces::id(image, r));
+    said::bytes(out, b, pieces::payload(image, r))
 }
 
 // One record: format, last flag, type, id, payload, text, URI.

@@ -15,8 +15,8 @@ use Rattle.utf8.specs.Utf8.{utf8}
 use Rattle.uri.specs.Prefixes.{prefixAnswer}
 use Rattle.uri.specs.declared.Prefix.{Prefix}
 use Rattle.records.specs.declared.Record.{Record}
-use Rattle.records.specs.Parts.{partOf, payloadOf}
-use Rattle.records.proofs.Parts.{part-inside, part-outside}
+use Rattle.pieces.specs.Parts.{partOf, payloadOf}
+use Rattle.pieces.proofs.Parts.{part-inside, part-outside}
 use Rattle.contents.specs.declared.Part.the-variants.{At, Nothing}
 use Rattle.contents.specs.declared.Link.{Link}
 use Rattle.contents.specs.Contents.{payloadAt, textIn, noLink, uriIn}

@@ -16,8 +16,8 @@ use lib.Dec.{leb, ltb}
 use Rattle.slices.proofs.Cases.{pick-cases}
 use Rattle.utf8.specs.Utf8.{utf8}
 use Rattle.records.specs.declared.Record.{Record}
-use Rattle.records.specs.Parts.{isOf, partOf, payloadOf}
-use Rattle.records.proofs.Parts.{part-inside}
+use Rattle.pieces.specs.Parts.{isOf, partOf, payloadOf}
+use Rattle.pieces.proofs.Parts.{part-inside}
 use Rattle.contents.specs.declared.Part.{Part}
 use Rattle.contents.specs.declared.Part.the-variants.{At, Nothing}
 use Rattle.contents.specs.declared.Link.{Link}

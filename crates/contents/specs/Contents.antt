@@ -16,7 +16,7 @@ use Rattle.slices.specs.Pick.{pick}
 use Rattle.utf8.specs.Utf8.{utf8}
 use Rattle.uri.specs.Prefixes.{entry, prefixAnswer}
 use Rattle.records.specs.declared.Record.{Record}
-use Rattle.records.specs.Parts.{payloadOf, isOf}
+use Rattle.pieces.specs.Parts.{payloadOf, isOf}
 use Rattle.contents.specs.declared.Part.{Part}
 use Rattle.contents.specs.declared.Part.the-variants.{At, Nothing}
 use Rattle.contents.specs.declared.Link.{Link}

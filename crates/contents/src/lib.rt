@@ -3,7 +3,7 @@ ghost use mathlib.Core.Path.{_≡_};
 ghost use Prim.Native.Nat.{_+_, _<_, _^_};
 ghost use lib.ListN.{length};
 ghost use Rattle.contents.specs.Contents.{payloadAt, textIn, textOf, noLink, uriIn, uriOf};
-ghost use Rattle.records.specs.Parts.{payloadOf};
+ghost use Rattle.pieces.specs.Parts.{payloadOf};
 use records::Record;
 use uri::Prefix;
 use uri::uri_prefix;
@@ -48,7 +48,7 @@ fn text_in(p: &[u8], at: usize) -> Part
 fn text_at(image: &[u8], r: Record) -> Part
     ensures { λ p. ⌜ p ≡ textIn (payloadOf (now (image .entry)) r) (payloadAt r) ⌝ }
 {
-    let p = records::payload(image, r);
+    let p = pieces::payload(image, r);
     if p.len() == 0 {
         return Part::Nothing;
     }
@@ -60,7 +60,7 @@ fn text_at(image: &[u8], r: Record) -> Part
 pub fn text(image: &[u8], r: Record) -> Part
     ensures { λ p. ⌜ p ≡ textOf (now (image .entry)) r ⌝ }
 {
-    if records::is(image, r, b'T') {
+    if pieces::is(image, r, b'T') {
         return text_at(image, r);
     }
     Part::Nothing
@@ -108,7 +108,7 @@ fn uri_in(p: &[u8], at: usize) -> Link
 fn uri_at(image: &[u8], r: Record) -> Link
     ensures { λ l. ⌜ l ≡ uriIn (payloadOf (now (image .entry)) r) (payloadAt r) ⌝ }
 {
-    let p = records::payload(image, r);
+    let p = pieces::payload(image, r);
     if p.len() == 0 {
         return nothing();
     }
@@ -120,7 +120,7 @@ fn uri_at(image: &[u8], r: Record) -> Link
 pub fn uri(image: &[u8], r: Record) -> Link
     ensures { λ l. ⌜ l ≡ uriOf (now (image .entry)) r ⌝ }
 {
-    if records::is(image, r, b'U') {
+    if pieces::is(image, r, b'U') {
         return uri_at(image, r);
     }
     nothing()

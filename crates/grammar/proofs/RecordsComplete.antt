@@ -19,12 +19,12 @@ use Rattle.slices.proofs.Numbers.{be-length}
 use Rattle.layout.specs.Record.{Fields, header, recordHead, recordBytes}
 use Rattle.records.specs.declared.Record.{Record}
 use Rattle.records.specs.declared.Parsed.the-variants as parsed
-use Rattle.records.specs.Parse.{flag, headLen, payloadLen, idLen, placesIn, wholeOf, parseOf}
-use Rattle.records.specs.Parts.{partOf, endOf, kindOf, idOf, payloadOf}
+use Rattle.records.specs.Parse.{flag, headLen, payloadLen, idLen, placesIn, wholeOf, parseOf, endOf}
+use Rattle.pieces.specs.Parts.{partOf, kindOf, idOf, payloadOf}
 use Rattle.grammar.specs.Records.{Allowed, headOf, placesOf, Begins, RecordAt}
 use Rattle.grammar.proofs.Bits.{header-chunk, header-last, header-short, header-named, header-format, four-read}
 use Rattle.records.proofs.Heads.{head-at}
-use Rattle.records.proofs.Parts.{part-inside}
+use Rattle.pieces.proofs.Parts.{part-inside}
 
 -- bytes that say a record which is all there
 all-there : (s : List ℕ) (h k i p : ℕ) → getD s 0 0 ≡ h → flag 0x20 h ≡ false → headLen h ≡ k → idLen s ≡ i → payloadLen s ≡ p

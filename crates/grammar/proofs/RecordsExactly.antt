@@ -22,7 +22,7 @@ use Rattle.records.specs.declared.Record.{Record}
 use Rattle.records.specs.declared.Parsed.{Parsed}
 use Rattle.records.specs.declared.Parsed.the-variants as parsed
 use Rattle.records.specs.Parse.{flag, headLen, idLen, payloadLen, wholeOf, parseOf, numberOf}
-use Rattle.records.specs.Parts.{kindOf, idOf, payloadOf, oneByte, isOf}
+use Rattle.pieces.specs.Parts.{kindOf, idOf, payloadOf, oneByte, isOf}
 use Rattle.grammar.specs.Records.{Bytes, Begins, RecordAt, placesOf}
 use Rattle.grammar.proofs.RecordsComplete.{complete, kind-there, id-there, payload-there}
 use Rattle.grammar.proofs.RecordsSound.{sound}

@@ -16,7 +16,7 @@ use lib.ListN.{length, getD}
 use Rattle.slices.specs.Pick.{pick}
 use Rattle.layout.specs.Record.{Fields, recordHead, recordBytes}
 use Rattle.records.specs.declared.Record.{Record}
-use Rattle.records.specs.Parts.{kindOf, idOf, payloadOf}
+use Rattle.pieces.specs.Parts.{kindOf, idOf, payloadOf}
 
 abbrev pub Bytes : List ℕ → Type 0
 Bytes s = (k : ℕ) → getD s k 0 < 256

@@ -22,7 +22,7 @@ use Rattle.slices.specs.Pick.{pick}
 use Rattle.slices.specs.Bytes.{Wrote}
 use Rattle.slices.proofs.Splice.{chain}
 use Rattle.records.specs.declared.Record.{Record}
-use Rattle.records.specs.Parts.{kindOf}
+use Rattle.pieces.specs.Parts.{kindOf}
 use Rattle.walk.specs.declared.Entry.{Entry}
 use Rattle.walk.specs.declared.Entry.the-variants as entry
 use Rattle.walk.specs.Step.{stepOf}

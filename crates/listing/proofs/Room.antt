@@ -22,7 +22,7 @@ use Rattle.records.specs.declared.Record.{Record}
 use Rattle.records.specs.declared.Parsed.{Parsed}
 use Rattle.records.specs.declared.Parsed.the-variants as parsed
 use Rattle.records.specs.Parse.{flag, headLen, payloadLen, idLen, wholeOf, parseOf}
-use Rattle.records.specs.Parts.{partOf, kindOf}
+use Rattle.pieces.specs.Parts.{partOf, kindOf}
 use Rattle.records.proofs.Heads.{head-least}
 use Rattle.records.proofs.Records.{record-there}
 use Rattle.walk.specs.declared.Entry.{Entry}

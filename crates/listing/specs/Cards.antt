@@ -8,7 +8,7 @@ use Prim.Native.Nat.{ℕ}
 use Rattle.slices.specs.Walk.{walk, walkF}
 use Rattle.blocks.specs.Read.{tlvLength, bodyOf, blockOf, messageFrom, containerLen, readOf}
 use Rattle.records.specs.Parse.{headLen, payloadLen, idLen, wholeOf, parseOf}
-use Rattle.records.specs.Parts.{partOf}
+use Rattle.pieces.specs.Parts.{partOf}
 use Rattle.walk.specs.Step.{stepOf}
 use Rattle.walk.specs.Walked.{walkedFrom}
 use Rattle.listing.specs.Text.{decimalF, decimal, hexOf, typeWord}

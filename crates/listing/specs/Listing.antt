@@ -21,7 +21,7 @@ use Rattle.slices.specs.Bytes.{splice}
 use Rattle.blocks.specs.declared.Message.{Message}
 use Rattle.blocks.specs.Read.{readOf, numberOf}
 use Rattle.records.specs.declared.Record.{Record}
-use Rattle.records.specs.Parts.{kindOf}
+use Rattle.pieces.specs.Parts.{kindOf}
 use Rattle.walk.specs.Step.{startOf}
 use Rattle.walk.specs.Walked.{Ending, ended, truncated, chunked, Walked, endingNumber, walked}
 use Rattle.listing.specs.Text.{decimal, typeWord, line}

@@ -99,7 +99,7 @@ fn put_record(out: &mut [u8], at: usize, number: usize, image: &[u8], r: Record)
     ensures { λ n. ⌜ Wrote (now (out .entry)) at (recordLine number r (now (image .entry))) (now (out .exit)) n ⌝ }
 {
     let a = put_head(out, at, number, r.format, r.last);
-    let b = put_type(out, a, records::kind(image, r));
+    let b = put_type(out, a, pieces::kind(image, r));
     let c = put_number(out, b, r.id_len, b' ');
     put_number(out, c, r.payload_len, b'\n')
 }

@@ -6,7 +6,7 @@ use mathlib.Core.List.{List}
 use Prim.Native.Nat.{ℕ}
 use Rattle.slices.specs.Bytes.{Wrote}
 use Rattle.judging.specs.declared.Built.{Built}
-use Rattle.plain.specs.Builds.{Tells}
+use Rattle.tells.specs.Builds.{Tells}
 use Rattle.telling.specs.Left.{Left, Leaves}
 
 -- a promise that is an equation

@@ -1,3 +1,2 @@
-pub mod Parts
+pub mod AsNumbers
 pub mod Steps
-pub mod Tells

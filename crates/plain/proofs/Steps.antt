@@ -19,7 +19,7 @@ use Rattle.walk.specs.declared.Entry.the-variants as entry
 use Rattle.walk.specs.declared.Stepped.{Stepped}
 use Rattle.walk.specs.Step.{shift, onParsed, left, stepOf, entryOf}
 use Rattle.plain.specs.Reading.{entryNumber, entryPlaces, placesOf, recordOf}
-use Rattle.plain.proofs.Parts.{read-back}
+use Rattle.plain.proofs.AsNumbers.{read-back}
 
 pub one-step : {s t : Stepped} {r end : ℕ} {p : List ℕ} → s ≡ t → r ≡ entryNumber (s .entry) → p ≡ entryPlaces (s .entry)
     → (r ≡ entryNumber (t .entry)) × ((s .next ∷ end ∷ [] ≡ t .next ∷ end ∷ []) × (p ≡ entryPlaces (t .entry)))

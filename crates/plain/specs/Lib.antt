@@ -1,4 +1,1 @@
-pub mod Builds
-pub mod Places
 pub mod Reading
-pub mod Says

@@ -2,11 +2,12 @@
 --
 --   cursorNumbers c   == a cursor as two numbers: where the next record begins, where the message ends
 --   cursorOf l        == the cursor that two numbers say
+--   yes b             == 1 for true, 0 for false
 --   placesOf r        == a record as six numbers: its format, 1 or 0 for the last, and its four places
 --   recordOf l        == the record that six numbers say: any `last` but 0 is the last, a format over 255 is none that a record has
 --   entryNumber e     == what stands at a cursor: 0 for a record, document 01's 13 or 14, 255 at the end
 --   entryPlaces e     == the record's six numbers, zeros where there is none
-use mathlib.Core.Bool.{not}
+use mathlib.Core.Bool.{Bool, not}
 use mathlib.Core.List.{List, [], _∷_}
 use Prim.Native.Nat.{ℕ, min}
 use lib.ListN.{getD, replicate}
@@ -22,6 +23,9 @@ cursorNumbers c = c .at ∷ c .end ∷ []
 
 abbrev pub cursorOf : List ℕ → Cursor
 cursorOf l = record { at = getD l 0 0; end = getD l 1 0 }
+
+abbrev pub yes : Bool → ℕ
+yes b = pick b 1 0
 
 abbrev pub placesOf : Record → List ℕ
 placesOf r = r .format ∷ pick (r .last) 1 0 ∷ r .kind ∷ r .«kind_len» ∷ r .«id_len» ∷ r .«payload_len» ∷ []

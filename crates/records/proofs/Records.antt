@@ -16,8 +16,7 @@ use Rattle.slices.proofs.Cases.{pick-cases}
 use Rattle.records.specs.declared.Record.{Record}
 use Rattle.records.specs.declared.Parsed.{Parsed}
 use Rattle.records.specs.declared.Parsed.the-variants as parsed
-use Rattle.records.specs.Parse.{flag, headLen, idLen, payloadLen, wholeOf, parseOf}
-use Rattle.records.specs.Parts.{endOf}
+use Rattle.records.specs.Parse.{flag, headLen, idLen, payloadLen, wholeOf, parseOf, endOf}
 use Rattle.records.proofs.Heads.{head-at, head-least, short-no-id}
 
 abbrev Sound : List ℕ → Parsed → Type 0

@@ -1,2 +1,1 @@
 pub mod Parse
-pub mod Parts

@@ -8,6 +8,7 @@
 --   wholeOf s h k i p         == that record, or Truncated where it runs past s
 --   parseOf s                 == the record at the front of s. The chunk flag is judged first; nothing, a head or a part that is not
 --                                all there is Truncated. Message-begin and the format are not judged
+--   endOf r                   == the place after the record r
 --   numberOf p                == document 01's number: 13, 14, and 0 for a record
 use mathlib.Core.List.{List}
 use mathlib.Core.Bool.{Bool}
@@ -52,6 +53,9 @@ parseOf s =
     pick (flag 0x20 (getD s 0 0)) parsed.Chunked
     (pick (ltb (length s) (headLen (getD s 0 0))) parsed.Truncated
     (wholeOf s (getD s 0 0) (headLen (getD s 0 0)) (idLen s) (payloadLen s)))
+
+abbrev pub endOf : Record → ℕ
+endOf r = r .kind + r .«kind_len» + r .«id_len» + r .«payload_len»
 
 abbrev pub numberOf : Parsed → ℕ
 numberOf (parsed.Record r) = 0

@@ -40,11 +40,11 @@ use Rattle.grammar.specs.Blocks as grammar
 use Rattle.grammar.proofs.BlocksComplete.{head-read, passes-read}
 use Rattle.records.specs.declared.Record.{Record}
 use Rattle.records.specs.declared.Parsed.the-variants as parsed
-use Rattle.records.specs.Parse.{parseOf}
-use Rattle.records.specs.Parts.{partOf, kindOf, idOf, payloadOf, isOf, endOf}
+use Rattle.records.specs.Parse.{parseOf, endOf}
+use Rattle.pieces.specs.Parts.{partOf, kindOf, idOf, payloadOf, isOf}
 use Rattle.grammar.specs.Records.{Allowed, headOf, placesOf}
 use Rattle.grammar.proofs.RecordsComplete.{complete, kind-there, id-there, payload-there, bytes-length}
-use Rattle.records.proofs.Parts.{part-inside, part-outside}
+use Rattle.pieces.proofs.Parts.{part-inside, part-outside}
 use Rattle.grammar.proofs.RecordsExactly.{is-exactly}
 use Rattle.walk.specs.declared.Entry.{Entry}
 use Rattle.walk.specs.declared.Entry.the-variants as entry

@@ -1,4 +1,4 @@
-// Images are measured, built and marked. A build returns document 01's number, 0 for done, and fills `values` (plain/specs/Builds): the
+// Images are measured, built and marked. A build returns document 01's number, 0 for done, and fills `values` (tells/specs/Builds): the
 // length or place, needed and room with 2, the record's length with 3, zeros otherwise.
 ghost use mathlib.Core.Path.{_≡_};
 ghost use Prim.Native.Nat.{_%_};
@@ -11,9 +11,8 @@ ghost use Rattle.scan.specs.Zeros.{highWater};
 ghost use Rattle.judging.specs.Judge.{verdict, checks};
 ghost use Rattle.begins.specs.Begins.{openBytes, beginBytes, beginTextBytes, finishAnswer, finishAfter};
 ghost use Rattle.image.specs.Builds.{mimeVerdict, textVerdict, uriVerdict, emptyVerdict};
-ghost use Rattle.plain.specs.Builds.{Tells, Builds};
-use plain::builds;
-use plain::builds::told;
+ghost use Rattle.tells.specs.Builds.{Tells, Builds};
+use tells::told;
 
 #[no_mangle]
 pub extern "C" fn skp_image_len_for(kind_len: usize, payload: usize) -> usize
@@ -62,7 +61,7 @@ pub extern "C" fn skp_high_water(image: &[u8]) -> usize
 pub extern "C" fn skp_capability_container(area: usize, container: &mut [u8; 8]) -> u32
     ensures { λ r. ⌜ (r ≡ verdictNumber (containerAnswer area .verdict)) × (now (container .exit) ≡ containerAnswer area .bytes) ⌝ }
 {
-    builds::capability_container(area, container)
+    tells::capability_container(area, container)
 }
 
 #[no_mangle]

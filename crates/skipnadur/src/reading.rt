@@ -3,23 +3,20 @@
 ghost use mathlib.Core.Path.{_≡_};
 ghost use lib.ListN.{length};
 ghost use Rattle.blocks.specs.Read.{readOf, numberOf};
-ghost use Rattle.records.specs.Parts.{isOf};
+ghost use Rattle.pieces.specs.Parts.{isOf};
 ghost use Rattle.walk.specs.Step.{startOf, entryOf, moved};
 ghost use Rattle.uri.specs.Prefixes.{prefixAnswer};
 ghost use Rattle.contents.specs.Contents.{textOf, uriOf};
-ghost use Rattle.plain.specs.Reading.{cursorOf, cursorNumbers, recordOf, entryNumber, entryPlaces};
-ghost use Rattle.plain.specs.Places.{partNumber, partNumbers, kindPart, idPart, payloadPart, yes};
-ghost use Rattle.plain.specs.Says.{linkNumber, linkNumbers};
+ghost use Rattle.plain.specs.Reading.{cursorOf, cursorNumbers, recordOf, entryNumber, entryPlaces, yes};
+ghost use Rattle.places.specs.Places.{partNumber, partNumbers, kindPart, idPart, payloadPart};
+ghost use Rattle.says.specs.Says.{linkNumber, linkNumbers};
 ghost use Rattle.messages.specs.Messages.{messageOf, padded};
-use plain::places;
-use plain::reading;
-use plain::says;
 
 #[no_mangle]
 pub extern "C" fn skp_read(image: &[u8], cursor: &mut [usize; 2]) -> u32
     ensures { λ r. ⌜ (r ≡ numberOf (readOf (now (image .entry)))) × (now (cursor .exit) ≡ cursorNumbers (startOf (readOf (now (image .entry))))) ⌝ }
 {
-    reading::read(image, cursor)
+    plain::read(image, cursor)
 }
 
 #[no_mangle]
@@ -28,7 +25,7 @@ pub extern "C" fn skp_next(image: &[u8], cursor: &mut [usize; 2], places: &mut [
     ensures { λ _. ⌜ now (cursor .exit) ≡ cursorNumbers (moved (now (image .entry)) (cursorOf (now (cursor .entry)))) ⌝ }
     ensures { λ _. ⌜ now (places .exit) ≡ entryPlaces (entryOf (now (image .entry)) (cursorOf (now (cursor .entry)))) ⌝ }
 {
-    reading::next(image, cursor, places)
+    plain::next(image, cursor, places)
 }
 
 #[no_mangle]

@@ -23,8 +23,7 @@ use Rattle.blocks.specs.declared.Message.the-variants as message
 use Rattle.records.specs.declared.Record.{Record}
 use Rattle.records.specs.declared.Parsed.{Parsed}
 use Rattle.records.specs.declared.Parsed.the-variants as parsed
-use Rattle.records.specs.Parse.{parseOf}
-use Rattle.records.specs.Parts.{endOf}
+use Rattle.records.specs.Parse.{parseOf, endOf}
 use Rattle.walk.specs.declared.Cursor.{Cursor}
 use Rattle.walk.specs.declared.Entry.{Entry}
 use Rattle.walk.specs.declared.Entry.the-variants as entry

@@ -2,8 +2,7 @@
 ghost use mathlib.Core.Path.{_≡_};
 ghost use Prim.Native.Nat.{_+_, _≤_, _<_, _^_};
 ghost use lib.ListN.{length};
-ghost use Rattle.records.specs.Parse.{parseOf};
-ghost use Rattle.records.specs.Parts.{endOf};
+ghost use Rattle.records.specs.Parse.{parseOf, endOf};
 ghost use Rattle.walk.specs.Step.{startOf, stop, recordAt, onParsed, stepOf, entryOf, moved, numberOf};
 use blocks::Message;
 use records::Parsed;

@@ -8,7 +8,7 @@ use lib.ListN.{length}
 use denote.Ref.{now}
 use Rattle.slices.specs.Pick.{pick}
 use Rattle.slices.proofs.Splice.{chain}
-use Rattle.records.specs.Parts.{kindOf}
+use Rattle.pieces.specs.Parts.{kindOf}
 use Rattle.listing.specs.Text.{decimal, typeWord}
 use Rattle.listing.proofs.Lines.{record-length, record-pieces, head-length}
 use Rattle.listing.proofs.Writes.{wrote-as, word-place}

@@ -1,7 +1,7 @@
 use borrow.Author.Needs.{needs}
 use Rattle.skipnadur.proofs.images.skp_begin.Statement.{statement}
 use Rattle.skipnadur.proofs.images.skp_begin.Tie as tie
-use Rattle.plain.proofs.Tells.{tells}
+use Rattle.tells.proofs.Tells.{tells}
 
 begin-requires : tie.Need-begin-requires
 begin-requires c κs = search needs

@@ -1,7 +1,7 @@
 use borrow.Author.Needs.{needs}
 use Rattle.skipnadur.proofs.images.skp_begin_mime.Statement.{statement}
 use Rattle.skipnadur.proofs.images.skp_begin_mime.Tie as tie
-use Rattle.plain.proofs.Tells.{tells}
+use Rattle.tells.proofs.Tells.{tells}
 
 begin-mime-requires : tie.Need-begin-mime-requires
 begin-mime-requires c κs = search needs

@@ -1,7 +1,7 @@
 use borrow.Author.Needs.{needs}
 use Rattle.skipnadur.proofs.images.skp_begin_text.Statement.{statement}
 use Rattle.skipnadur.proofs.images.skp_begin_text.Tie as tie
-use Rattle.plain.proofs.Tells.{tells}
+use Rattle.tells.proofs.Tells.{tells}
 
 begin-text-requires : tie.Need-begin-text-requires
 begin-text-requires c κs = search needs

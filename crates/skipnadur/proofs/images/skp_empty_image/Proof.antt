@@ -1,7 +1,7 @@
 use borrow.Author.Needs.{needs}
 use Rattle.skipnadur.proofs.images.skp_empty_image.Statement.{statement}
 use Rattle.skipnadur.proofs.images.skp_empty_image.Tie as tie
-use Rattle.plain.proofs.Tells.{tells}
+use Rattle.tells.proofs.Tells.{tells}
 
 empty-image-requires : tie.Need-empty-image-requires
 empty-image-requires c κs = search needs

@@ -1,7 +1,7 @@
 use borrow.Author.Needs.{needs}
 use Rattle.skipnadur.proofs.images.skp_finish.Statement.{statement}
 use Rattle.skipnadur.proofs.images.skp_finish.Tie as tie
-use Rattle.plain.proofs.Tells.{tells}
+use Rattle.tells.proofs.Tells.{tells}
 
 finish-requires : tie.Need-finish-requires
 finish-requires c κs = search needs

@@ -1,7 +1,7 @@
 use borrow.Author.Needs.{needs}
 use Rattle.skipnadur.proofs.images.skp_mime_image.Statement.{statement}
 use Rattle.skipnadur.proofs.images.skp_mime_image.Tie as tie
-use Rattle.plain.proofs.Tells.{tells}
+use Rattle.tells.proofs.Tells.{tells}
 
 mime-image-requires : tie.Need-mime-image-requires
 mime-image-requires c κs = search needs

@@ -1,7 +1,7 @@
 use borrow.Author.Needs.{needs}
 use Rattle.skipnadur.proofs.images.skp_open.Statement.{statement}
 use Rattle.skipnadur.proofs.images.skp_open.Tie as tie
-use Rattle.plain.proofs.Tells.{tells}
+use Rattle.tells.proofs.Tells.{tells}
 
 open-requires : tie.Need-open-requires
 open-requires c κs = search needs

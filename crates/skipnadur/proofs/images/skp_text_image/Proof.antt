@@ -1,7 +1,7 @@
 use borrow.Author.Needs.{needs}
 use Rattle.skipnadur.proofs.images.skp_text_image.Statement.{statement}
 use Rattle.skipnadur.proofs.images.skp_text_image.Tie as tie
-use Rattle.plain.proofs.Tells.{tells}
+use Rattle.tells.proofs.Tells.{tells}
 
 text-image-requires : tie.Need-text-image-requires
 text-image-requires c κs = search needs

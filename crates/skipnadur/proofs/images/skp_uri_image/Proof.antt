@@ -1,7 +1,7 @@
 use borrow.Author.Needs.{needs}
 use Rattle.skipnadur.proofs.images.skp_uri_image.Statement.{statement}
 use Rattle.skipnadur.proofs.images.skp_uri_image.Tie as tie
-use Rattle.plain.proofs.Tells.{tells}
+use Rattle.tells.proofs.Tells.{tells}
 
 uri-image-requires : tie.Need-uri-image-requires
 uri-image-requires c κs = search needs
