@@ -5,17 +5,17 @@ ghost use lib.ListN.{length};
 ghost use Rattle.protocol.specs.Call as call;
 ghost use Rattle.protocol.specs.Mark.{widened};
 ghost use Rattle.protocol.specs.Write.{past};
-ghost use Rattle.turns.specs.Turns.{startOf};
+ghost use Rattle.stages.specs.Turns.{startOf};
 ghost use Rattle.calling.specs.Calling.{named};
+use clearing::wipe_start;
 use machine::switch::Switch;
 use machine::wait::Wait;
 use protocol::answer::Answer;
 use protocol::answer::TagError;
 use setup::setup::Setup;
-use turns::stage::Stage;
-use turns::stage::Turn;
-use turns::starts::wipe_start;
-use turns::turns::write_turn;
+use stages::stage::Stage;
+use stages::stage::Turn;
+use turns::write_turn;
 use writing::write::write_new;
 
 // A call, and the numbers that it is given. The bytes of a write are lent beside it.

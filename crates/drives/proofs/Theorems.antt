@@ -11,8 +11,8 @@ use Rattle.protocol.specs.Call.{Call}
 use Rattle.protocol.specs.Calls.{callOf}
 use Rattle.protocol.specs.Trace.{Replies, later, Exchange, trace, answerOf, markOf, rowsOf, Report, nothing, noted, reportOn, End}
 use Rattle.machine.specs.Ask.{meant}
-use Rattle.turns.specs.Turns.{stageAsk, stageStep, startOf, lentTo}
-use Rattle.turns.specs.declared.stage.Turn.{Turn}
+use Rattle.stages.specs.Turns.{stageAsk, stageStep, startOf, lentTo}
+use Rattle.stages.specs.declared.stage.Turn.{Turn}
 use Rattle.session.specs.Sound.{sound}
 use Rattle.session.specs.Steps.{entered, counted}
 use Rattle.session.specs.declared.session.Now.the-variants as N

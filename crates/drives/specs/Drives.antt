@@ -11,10 +11,10 @@ use Rattle.protocol.specs.Mark.{Mark}
 use Rattle.protocol.specs.Trace.{Replies, later, Exchange, End}
 use Rattle.protocol.specs.declared.answer.Answer.{Answer}
 use Rattle.machine.specs.Ask.{meant}
-use Rattle.turns.specs.Turns.{stageAsk, stageStep}
-use Rattle.turns.specs.declared.stage.Stage.{Stage}
-use Rattle.turns.specs.declared.stage.Turn.{Turn}
-use Rattle.turns.specs.declared.stage.Turn.the-variants.{Open, Over}
+use Rattle.stages.specs.Turns.{stageAsk, stageStep}
+use Rattle.stages.specs.declared.stage.Stage.{Stage}
+use Rattle.stages.specs.declared.stage.Turn.{Turn}
+use Rattle.stages.specs.declared.stage.Turn.the-variants.{Open, Over}
 use Rattle.session.specs.Steps.{counted}
 
 pub data Drives (lent : List ℕ) : ℕ → Turn → Replies → List Exchange → End → Type 0 where

@@ -20,12 +20,12 @@ use Rattle.setup.specs.declared.setup.Setup.the-variants as U
 use Rattle.writing.specs.Write.{writeAsk, pieceOf}
 use Rattle.writing.specs.declared.write.Write.{Write}
 use Rattle.writing.specs.declared.write.Write.the-variants as K
-use Rattle.turns.specs.Turns.{stageAsk}
-use Rattle.turns.specs.Able.{Able}
-use Rattle.turns.specs.declared.stage.Stage.{Stage}
-use Rattle.turns.specs.declared.stage.Stage.the-variants as G
-use Rattle.turns.specs.declared.stage.Turn.{Turn}
-use Rattle.turns.specs.declared.stage.Turn.the-variants.{Open, Over}
+use Rattle.stages.specs.Turns.{stageAsk}
+use Rattle.stages.specs.Able.{Able}
+use Rattle.stages.specs.declared.stage.Stage.{Stage}
+use Rattle.stages.specs.declared.stage.Stage.the-variants as G
+use Rattle.stages.specs.declared.stage.Turn.{Turn}
+use Rattle.stages.specs.declared.stage.Turn.the-variants.{Open, Over}
 use Rattle.session.specs.Sound.{stageSound, sound, plain}
 use Rattle.session.specs.Steps.{entered, outOf}
 use Rattle.session.specs.declared.session.Now.the-variants as N

@@ -11,10 +11,10 @@ use Rattle.protocol.specs.Mark.{Mark, given}
 use Rattle.protocol.specs.Call.{Call}
 use Rattle.machine.specs.declared.ask.Ask.{Ask}
 use Rattle.machine.specs.declared.ask.Ask.the-variants as A
-use Rattle.turns.specs.Turns.{stageAsk, stageStep, startOf, lentTo}
-use Rattle.turns.specs.Able.{gotBy}
-use Rattle.turns.specs.declared.stage.Stage.{Stage}
-use Rattle.turns.specs.declared.stage.Turn.{Turn}
+use Rattle.stages.specs.Turns.{stageAsk, stageStep, startOf, lentTo}
+use Rattle.stages.specs.Able.{gotBy}
+use Rattle.stages.specs.declared.stage.Stage.{Stage}
+use Rattle.stages.specs.declared.stage.Turn.{Turn}
 use Rattle.session.specs.Steps.{idle, counted}
 use Rattle.session.specs.declared.session.Session.{Session}
 use Rattle.state.specs.Bytes.{encode, decodeOf}

@@ -16,8 +16,8 @@ use Rattle.setup.specs.declared.open.Open.the-variants as O
 use Rattle.setup.specs.declared.store.Store.the-variants as T
 use Rattle.setup.specs.declared.setup.Setup.{Setup}
 use Rattle.setup.specs.declared.setup.Setup.the-variants as U
-use Rattle.turns.specs.Turns.{stageAsk}
-use Rattle.turns.specs.declared.stage.Stage.{Stage}
+use Rattle.stages.specs.Turns.{stageAsk}
+use Rattle.stages.specs.declared.stage.Stage.{Stage}
 use Rattle.session.specs.Steps.{counted}
 use Rattle.entry.specs.Rows.{asksRow, StageRow, StageCount}
 

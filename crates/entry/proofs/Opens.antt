@@ -10,9 +10,9 @@ use borrow.Author.Tests.{eqb-true, ltb-false, not-false}
 use Rattle.slices.specs.Pick.{pick}
 use Rattle.protocol.specs.Mark.{Mark, none}
 use Rattle.protocol.specs.Call.{Call}
-use Rattle.turns.specs.Turns.{stageAsk, stageStep, startOf, lentTo}
-use Rattle.turns.specs.declared.stage.Stage.{Stage}
-use Rattle.turns.specs.declared.stage.Turn.{Turn}
+use Rattle.stages.specs.Turns.{stageAsk, stageStep, startOf, lentTo}
+use Rattle.stages.specs.declared.stage.Stage.{Stage}
+use Rattle.stages.specs.declared.stage.Turn.{Turn}
 use Rattle.session.specs.Sound.{sound}
 use Rattle.session.specs.Steps.{entered, counted, outOf}
 use Rattle.session.specs.declared.session.Now.{Now}
@@ -31,7 +31,7 @@ use Rattle.kept.proofs.Decode.{now-counts}
 use Rattle.kept.proofs.Truths.{either-no}
 use Rattle.telling.specs.Left.{short, openedNow, openedBy, openedOf, markOf, misfit, heardNow, heardBy}
 use Rattle.telling.specs.Fit.{StageFits, TurnFits, StartFits}
-use Rattle.turns.specs.Able.{Able}
+use Rattle.stages.specs.Able.{Able}
 use Rattle.kept.proofs.Ables.{able}
 use Rattle.telling.specs.declared.opening.Opened.{Opened}
 use Rattle.telling.specs.declared.opening.Opened.the-variants as O

@@ -7,7 +7,7 @@ use mathlib.Core.Path.{_≡_}
 use mathlib.Core.Bool.{true}
 use Prim.Native.Nat.{ℕ, _≤_}
 use Rattle.protocol.specs.Mark.{Mark}
-use Rattle.turns.specs.declared.stage.Stage.{Stage}
+use Rattle.stages.specs.declared.stage.Stage.{Stage}
 use Rattle.session.specs.Sound.{sound}
 use Rattle.session.specs.Steps.{outOf}
 use Rattle.session.specs.declared.session.Now.the-variants as N

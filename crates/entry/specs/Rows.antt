@@ -10,8 +10,8 @@ use Rattle.machine.specs.declared.ask.Ask.{Ask}
 use Rattle.machine.specs.declared.ask.Ask.the-variants as A
 use Rattle.writing.specs.Write.{writeAsk}
 use Rattle.writing.specs.declared.write.Write.{Write}
-use Rattle.turns.specs.Turns.{stageAsk}
-use Rattle.turns.specs.declared.stage.Stage.{Stage}
+use Rattle.stages.specs.Turns.{stageAsk}
+use Rattle.stages.specs.declared.stage.Stage.{Stage}
 use Rattle.session.specs.Steps.{counted}
 
 abbrev pub asksRow : Ask → Bool

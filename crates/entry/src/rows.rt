@@ -2,7 +2,7 @@
 ghost use mathlib.Core.Path.{_≡_};
 ghost use Rattle.wipe.specs.Scrub.{scrubAsk};
 ghost use Rattle.entry.specs.Rows.{asksRow, WriteRow, StageRow, StageCount};
-use turns::stage::Stage;
+use stages::stage::Stage;
 use wipe::scrub::Scrub;
 use writing::write::Write;
 

@@ -1,6 +1,6 @@
 // A call is started.
 ghost use mathlib.Core.Path.{_≡_};
-ghost use Rattle.turns.specs.Turns.{lentTo};
+ghost use Rattle.stages.specs.Turns.{lentTo};
 ghost use Rattle.telling.specs.Left.{Leaves, startLeft};
 ghost use Rattle.calling.specs.Calling.{named};
 use calling::Call;

@@ -38,7 +38,7 @@ use Rattle.protocol.specs.Mark as mark
 use Rattle.protocol.specs.Call.{Call, begin, finish, scrub}
 use Rattle.protocol.specs.Calls.{callOf}
 use Rattle.protocol.specs.Trace.{Replies, trace, answerOf, markOf, nothing, reportOn}
-use Rattle.turns.specs.Turns.{startOf, lentTo}
+use Rattle.stages.specs.Turns.{startOf, lentTo}
 use Rattle.session.specs.declared.session.Session.{Session}
 use Rattle.state.specs.Bytes.{encode, decodeOf}
 use Rattle.state.specs.declared.decode.Decoded.the-variants.{State}

@@ -11,9 +11,9 @@ use Rattle.wipe.specs.declared.scrub.Scrub.the-variants as C
 use Rattle.writing.specs.Write.{Inside}
 use Rattle.writing.specs.declared.write.Write.{Write}
 use Rattle.writing.specs.declared.write.Write.the-variants as K
-use Rattle.turns.specs.Able.{Able}
-use Rattle.turns.specs.declared.stage.Stage.{Stage}
-use Rattle.turns.specs.declared.stage.Stage.the-variants as G
+use Rattle.stages.specs.Able.{Able}
+use Rattle.stages.specs.declared.stage.Stage.{Stage}
+use Rattle.stages.specs.declared.stage.Stage.the-variants as G
 use Rattle.session.specs.Sound.{scrubSound, stageSound, sound}
 use Rattle.session.specs.Steps.{outOf}
 use Rattle.session.specs.declared.session.Now.the-variants as N

@@ -25,10 +25,10 @@ use Rattle.wipe.specs.Scrub.{chunkFrom}
 use Rattle.wipe.specs.declared.scrub.Scrub.{Scrub}
 use Rattle.wipe.specs.declared.scrub.Scrub.the-variants as C
 use Rattle.writing.specs.declared.write.Write.{Write}
-use Rattle.turns.specs.Turns.{stageAsk, stageStep, startOf, lentTo, waitTurn, prepareTurn, beginTurn, switchTurn, wholeTurn, beginOffTurn, finishOffTurn, wipeTurn, finishTurn}
-use Rattle.turns.specs.declared.stage.Stage.{Stage}
-use Rattle.turns.specs.declared.stage.Stage.the-variants as G
-use Rattle.turns.specs.declared.stage.Turn.the-variants as D
+use Rattle.stages.specs.Turns.{stageAsk, stageStep, startOf, lentTo, waitTurn, prepareTurn, beginTurn, switchTurn, wholeTurn, beginOffTurn, finishOffTurn, wipeTurn, finishTurn}
+use Rattle.stages.specs.declared.stage.Stage.{Stage}
+use Rattle.stages.specs.declared.stage.Stage.the-variants as G
+use Rattle.stages.specs.declared.stage.Turn.the-variants as D
 use Rattle.session.specs.Sound.{waitSound, setupSound, switchSound, offSound, scrubSound, plain, stageSound, nowSound, sound}
 use Rattle.session.specs.Steps.{counted}
 use Rattle.session.specs.declared.session.Now.{Now}

@@ -10,10 +10,10 @@ use lib.ListN.{length}
 use Rattle.protocol.specs.Mark.{Mark}
 use Rattle.protocol.specs.Call.{Call}
 use Rattle.machine.specs.declared.ask.Ask.{Ask}
-use Rattle.turns.specs.Turns.{stageAsk, stageStep, startOf, lentTo}
-use Rattle.turns.specs.declared.stage.Stage.{Stage}
-use Rattle.turns.specs.declared.stage.Turn.{Turn}
-use Rattle.turns.specs.declared.stage.Turn.the-variants.{Open}
+use Rattle.stages.specs.Turns.{stageAsk, stageStep, startOf, lentTo}
+use Rattle.stages.specs.declared.stage.Stage.{Stage}
+use Rattle.stages.specs.declared.stage.Turn.{Turn}
+use Rattle.stages.specs.declared.stage.Turn.the-variants.{Open}
 use Rattle.session.specs.Steps.{idle, entered, counted}
 use Rattle.session.specs.declared.session.Now.the-variants as N
 use Rattle.session.specs.declared.session.Session.{Session}

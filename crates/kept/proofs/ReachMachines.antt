@@ -26,9 +26,9 @@ use Rattle.setup.specs.declared.setup.Job.the-variants as J
 use Rattle.setup.specs.declared.setup.Setup.{Setup}
 use Rattle.setup.specs.declared.setup.Setup.the-variants as I
 use Rattle.setup.specs.declared.setup.SetupStep.the-variants as U
-use Rattle.turns.specs.Turns.{stageAsk, stageStep}
-use Rattle.turns.specs.declared.stage.Stage.{Stage}
-use Rattle.turns.specs.declared.stage.Turn.the-variants as D
+use Rattle.stages.specs.Turns.{stageAsk, stageStep}
+use Rattle.stages.specs.declared.stage.Stage.{Stage}
+use Rattle.stages.specs.declared.stage.Turn.the-variants as D
 use Rattle.session.specs.Sound.{waitSound, openSound, storeSound, setupSound, switchSound, offSound}
 use Rattle.kept.specs.Bytes.{Bytes}
 use Rattle.kept.specs.Left.{asked, Answers, Left}

@@ -16,9 +16,9 @@ use Rattle.wipe.specs.declared.scrub.Rows.{Rows}
 use Rattle.wipe.specs.declared.scrub.Scrub.{Scrub}
 use Rattle.wipe.specs.declared.scrub.Scrub.the-variants as C
 use Rattle.wipe.specs.declared.scrub.Scrubbed.the-variants.{More}
-use Rattle.turns.specs.Turns.{stageAsk, stageStep}
-use Rattle.turns.specs.declared.stage.Stage.{Stage}
-use Rattle.turns.specs.declared.stage.Turn.the-variants as D
+use Rattle.stages.specs.Turns.{stageAsk, stageStep}
+use Rattle.stages.specs.declared.stage.Stage.{Stage}
+use Rattle.stages.specs.declared.stage.Turn.the-variants as D
 use Rattle.session.specs.Steps.{counted}
 use Rattle.kept.specs.Left.{Answers, Left}
 use Rattle.kept.proofs.Replies.{bytes-none, says-none}

@@ -26,9 +26,9 @@ use Rattle.writing.specs.declared.write.Check.{Check}
 use Rattle.writing.specs.declared.write.Write.{Write}
 use Rattle.writing.specs.declared.write.Write.the-variants as K
 use Rattle.writing.specs.declared.write.Written.the-variants.{More}
-use Rattle.turns.specs.Turns.{writeTurn}
-use Rattle.turns.specs.declared.stage.Stage.the-variants as G
-use Rattle.turns.specs.declared.stage.Turn.the-variants as D
+use Rattle.stages.specs.Turns.{writeTurn}
+use Rattle.stages.specs.declared.stage.Stage.the-variants as G
+use Rattle.stages.specs.declared.stage.Turn.the-variants as D
 use Rattle.session.specs.Steps.{counted}
 use Rattle.session.proofs.Unders.{count-some}
 use Rattle.kept.specs.Bytes.{Bytes}

@@ -15,8 +15,8 @@ use Rattle.wipe.specs.declared.scrub.Scrub.the-variants as C
 use Rattle.writing.specs.declared.write.Piece.{Piece}
 use Rattle.writing.specs.declared.write.Write.{Write}
 use Rattle.writing.specs.declared.write.Write.the-variants as K
-use Rattle.turns.specs.declared.stage.Stage.{Stage}
-use Rattle.turns.specs.declared.stage.Stage.the-variants as G
+use Rattle.stages.specs.declared.stage.Stage.{Stage}
+use Rattle.stages.specs.declared.stage.Stage.the-variants as G
 use Rattle.session.specs.Sound.{setupSound, waitSound, switchSound, offSound, scrubSound, plain, stageSound, nowSound, sound}
 use Rattle.session.specs.declared.session.Now.{Now}
 use Rattle.session.specs.declared.session.Now.the-variants as N

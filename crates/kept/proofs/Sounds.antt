@@ -9,8 +9,8 @@ use borrow.Author.Tests.{leb-true, le-leb}
 use Rattle.protocol.specs.Mark.{Mark, given}
 use Rattle.protocol.proofs.Marks.{inside-given}
 use Rattle.protocol.specs.Call.{Call}
-use Rattle.turns.specs.Turns.{stageAsk, stageStep, startOf, lentTo}
-use Rattle.turns.specs.declared.stage.Stage.{Stage}
+use Rattle.stages.specs.Turns.{stageAsk, stageStep, startOf, lentTo}
+use Rattle.stages.specs.declared.stage.Stage.{Stage}
 use Rattle.session.specs.Sound.{stageSound, nowSound, sound}
 use Rattle.session.specs.Steps.{idle, entered, counted}
 use Rattle.session.specs.declared.session.Now.the-variants as N

@@ -10,9 +10,9 @@ use Rattle.protocol.specs.Transfer.{Reply}
 use Rattle.protocol.specs.Trace.{rowsOf}
 use Rattle.protocol.specs.Call.{Call}
 use Rattle.machine.specs.Ask.{meant}
-use Rattle.turns.specs.Able.{Able}
-use Rattle.turns.specs.Turns.{stageAsk, stageStep, startOf, lentTo}
-use Rattle.turns.specs.declared.stage.Stage.{Stage}
+use Rattle.stages.specs.Able.{Able}
+use Rattle.stages.specs.Turns.{stageAsk, stageStep, startOf, lentTo}
+use Rattle.stages.specs.declared.stage.Stage.{Stage}
 use Rattle.session.specs.Sound.{sound}
 use Rattle.session.specs.Steps.{idle, entered, counted, outOf}
 use Rattle.session.specs.declared.session.Now.the-variants as N

@@ -13,8 +13,8 @@ use Rattle.protocol.specs.Mark.{Mark, given}
 use Rattle.protocol.specs.Call.{Call}
 use Rattle.machine.specs.declared.ask.Ask.{Ask}
 use Rattle.machine.specs.declared.ask.Ask.the-variants as A
-use Rattle.turns.specs.Turns.{stageAsk, stageStep, startOf, lentTo}
-use Rattle.turns.specs.declared.stage.Stage.{Stage}
+use Rattle.stages.specs.Turns.{stageAsk, stageStep, startOf, lentTo}
+use Rattle.stages.specs.declared.stage.Stage.{Stage}
 use Rattle.session.specs.Steps.{idle, entered, counted}
 use Rattle.session.specs.declared.session.Now.the-variants as N
 use Rattle.session.specs.declared.session.Session.{Session}

@@ -42,12 +42,12 @@ use Rattle.wipe.specs.declared.scrub.Scrubbed.{Scrubbed}
 use Rattle.wipe.specs.declared.scrub.Scrubbed.the-variants as C
 use Rattle.writing.specs.declared.write.Written.{Written}
 use Rattle.writing.specs.declared.write.Written.the-variants as R
-use Rattle.turns.specs.Turns.{stageAsk, wrote, identifyTurn, prepareTurn, waitTurn, writeTurn, switchTurn, wholeTurn, wipeTurn, wipeStart, beginTurn, beginOffTurn, finishOffTurn, finishTurn, finishStart, stageStep, startOf, lentTo}
+use Rattle.stages.specs.Turns.{stageAsk, wrote, identifyTurn, prepareTurn, waitTurn, writeTurn, switchTurn, wholeTurn, wipeTurn, wipeStart, beginTurn, beginOffTurn, finishOffTurn, finishTurn, finishStart, stageStep, startOf, lentTo}
 use Rattle.runs.specs.Resume.{wiping, wholeRest, beginRest, stuckAs, finishRest, resumeStage, afterTurn}
-use Rattle.turns.specs.declared.stage.Stage.{Stage}
-use Rattle.turns.specs.declared.stage.Stage.the-variants as G
-use Rattle.turns.specs.declared.stage.Turn.{Turn}
-use Rattle.turns.specs.declared.stage.Turn.the-variants.{Open, Over}
+use Rattle.stages.specs.declared.stage.Stage.{Stage}
+use Rattle.stages.specs.declared.stage.Stage.the-variants as G
+use Rattle.stages.specs.declared.stage.Turn.{Turn}
+use Rattle.stages.specs.declared.stage.Turn.the-variants.{Open, Over}
 
 module _ (lent : List ℕ) (m : Mark) (q : Report) where
   -- what the step of each machine means for the call that it serves

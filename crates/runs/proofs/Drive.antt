@@ -10,12 +10,12 @@ use Rattle.protocol.specs.Proc.{Proc, done, ask, mark}
 use Rattle.protocol.specs.Trace.{Replies, later, Exchange, trace, Report, noted, Talk, talk, asks, over, End, endOf}
 use Rattle.protocol.specs.declared.answer.Answer.{Answer}
 use Rattle.machine.specs.Ask.{meant}
-use Rattle.turns.specs.Turns.{stageAsk, stageStep}
+use Rattle.stages.specs.Turns.{stageAsk, stageStep}
 use Rattle.runs.specs.Resume.{afterTurn}
 use Rattle.runs.specs.Runs.{Runs, ends, goes}
-use Rattle.turns.specs.declared.stage.Stage.{Stage}
-use Rattle.turns.specs.declared.stage.Turn.{Turn}
-use Rattle.turns.specs.declared.stage.Turn.the-variants.{Open, Over}
+use Rattle.stages.specs.declared.stage.Stage.{Stage}
+use Rattle.stages.specs.declared.stage.Turn.{Turn}
+use Rattle.stages.specs.declared.stage.Turn.the-variants.{Open, Over}
 use Rattle.runs.proofs.Bridge.{session-bridge}
 
 module _ (lent : List ℕ) where

@@ -5,7 +5,7 @@ use Rattle.protocol.specs.Call.{Call}
 use Rattle.protocol.specs.Calls.{callOf}
 use Rattle.protocol.specs.Trace.{Replies, trace, answerOf, markOf, nothing, reportOn, End}
 use Rattle.protocol.proofs.Runs.{seen}
-use Rattle.turns.specs.Turns.{startOf, lentTo}
+use Rattle.stages.specs.Turns.{startOf, lentTo}
 use Rattle.runs.specs.Runs.{Runs}
 use Rattle.runs.proofs.Bridge.{session-starts}
 use Rattle.runs.proofs.Drive.{runs-along}

@@ -25,10 +25,10 @@ use Rattle.machine.specs.Switch.{resumeSwitch}
 use Rattle.setup.specs.Setup.{resumeSetup}
 use Rattle.wipe.specs.Scrub.{resumeScrub}
 use Rattle.writing.specs.Write.{resumeWrite}
-use Rattle.turns.specs.declared.stage.Stage.{Stage}
-use Rattle.turns.specs.declared.stage.Stage.the-variants as G
-use Rattle.turns.specs.declared.stage.Turn.{Turn}
-use Rattle.turns.specs.declared.stage.Turn.the-variants.{Open, Over}
+use Rattle.stages.specs.declared.stage.Stage.{Stage}
+use Rattle.stages.specs.declared.stage.Stage.the-variants as G
+use Rattle.stages.specs.declared.stage.Turn.{Turn}
+use Rattle.stages.specs.declared.stage.Turn.the-variants.{Open, Over}
 
 abbrev pub wiping : Proc (Res Unit) → Proc (Res Unit)
 wiping p = try p (λ _. mark none fine)

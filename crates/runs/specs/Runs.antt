@@ -10,10 +10,10 @@ use Rattle.protocol.specs.Mark.{Mark}
 use Rattle.protocol.specs.Trace.{Replies, later, Exchange, Report, noted, End}
 use Rattle.protocol.specs.declared.answer.Answer.{Answer}
 use Rattle.machine.specs.Ask.{meant}
-use Rattle.turns.specs.Turns.{stageAsk, stageStep}
-use Rattle.turns.specs.declared.stage.Stage.{Stage}
-use Rattle.turns.specs.declared.stage.Turn.{Turn}
-use Rattle.turns.specs.declared.stage.Turn.the-variants.{Open, Over}
+use Rattle.stages.specs.Turns.{stageAsk, stageStep}
+use Rattle.stages.specs.declared.stage.Stage.{Stage}
+use Rattle.stages.specs.declared.stage.Turn.{Turn}
+use Rattle.stages.specs.declared.stage.Turn.the-variants.{Open, Over}
 
 pub data Runs (lent : List ℕ) : Report → Turn → Replies → List Exchange → End → Type 0 where
   ends : {r : Report} {m : Mark} {a : Answer} {ρ : Replies} → Runs lent r (Over m a) ρ [] (record { answer = a; mark = m; report = r })

@@ -11,10 +11,10 @@ use Rattle.protocol.specs.Tag.{userMemory}
 use Rattle.protocol.specs.Mark.{Mark}
 use Rattle.machine.specs.declared.ask.Ask.{Ask}
 use Rattle.machine.specs.declared.ask.Ask.the-variants as A
-use Rattle.turns.specs.declared.stage.Stage.{Stage}
-use Rattle.turns.specs.declared.stage.Stage.the-variants as G
-use Rattle.turns.specs.declared.stage.Turn.{Turn}
-use Rattle.turns.specs.declared.stage.Turn.the-variants.{Open, Over}
+use Rattle.stages.specs.declared.stage.Stage.{Stage}
+use Rattle.stages.specs.declared.stage.Stage.the-variants as G
+use Rattle.stages.specs.declared.stage.Turn.{Turn}
+use Rattle.stages.specs.declared.stage.Turn.the-variants.{Open, Over}
 use Rattle.session.specs.declared.session.Now.the-variants as N
 use Rattle.session.specs.declared.session.Session.{Session}
 

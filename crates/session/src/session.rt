@@ -2,7 +2,7 @@
 ghost use mathlib.Core.Path.{_≡_};
 ghost use Rattle.protocol.specs.Mark.{given};
 ghost use Rattle.session.specs.Steps.{idle};
-use turns::stage::Stage;
+use stages::stage::Stage;
 
 // Whether a call is open, and what it waits on.
 pub enum Now {

@@ -5,8 +5,8 @@ ghost use Rattle.session.specs.Steps.{entered, counted, outOf};
 use crate::session::Now;
 use crate::session::Session;
 use machine::ask::Ask;
-use turns::stage::Stage;
-use turns::stage::Turn;
+use stages::stage::Stage;
+use stages::stage::Turn;
 
 pub fn entered(rows: usize, lent: usize, t: Turn) -> Session
     ensures { λ r. ⌜ r ≡ entered rows lent t ⌝ }

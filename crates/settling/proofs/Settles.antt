@@ -6,7 +6,7 @@ use lib.ListN.{length}
 use Rattle.session.specs.Steps.{entered}
 use Rattle.session.specs.declared.session.Session.{Session}
 use Rattle.state.specs.Bytes.{encode}
-use Rattle.turns.specs.declared.stage.Turn.{Turn}
+use Rattle.stages.specs.declared.stage.Turn.{Turn}
 use Rattle.telling.specs.declared.opening.Opened.{Opened}
 use Rattle.telling.specs.Left.{Leaves, settled, startedLeft}
 

@@ -12,6 +12,8 @@ use protocol::answer::Answer;
 use session::session::Session;
 use session::steps::entered;
 use slices::copy_to;
+use stages::stage::Stage;
+use stages::stage::Turn;
 use state::bytes::wide;
 use state::decode::encode;
 use steps::stage_ask;
@@ -19,8 +21,6 @@ use telling::frame::frame;
 use telling::opening::Opened;
 use telling::step::ask_step;
 use telling::step::step;
-use turns::stage::Stage;
-use turns::stage::Turn;
 
 // Whether the bytes that a stage reads go into the caller's own buffer.
 fn into_out(st: Stage) -> bool

@@ -14,9 +14,9 @@ use Rattle.protocol.specs.Mark.{Mark}
 use Rattle.protocol.specs.Call.{Call}
 use Rattle.protocol.specs.Trace.{Exchange, rowsOf, noted}
 use Rattle.machine.specs.Ask.{meant}
-use Rattle.turns.specs.Turns.{stageAsk, stageStep, startOf, lentTo}
-use Rattle.turns.specs.Able.{gotBy}
-use Rattle.turns.specs.declared.stage.Stage.{Stage}
+use Rattle.stages.specs.Turns.{stageAsk, stageStep, startOf, lentTo}
+use Rattle.stages.specs.Able.{gotBy}
+use Rattle.stages.specs.declared.stage.Stage.{Stage}
 use Rattle.session.specs.Sound.{sound}
 use Rattle.session.specs.Steps.{idle, counted, outOf}
 use Rattle.session.specs.declared.session.Now.{Now}

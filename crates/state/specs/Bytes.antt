@@ -16,7 +16,7 @@ use Rattle.slices.specs.Pick.{pick}
 use Rattle.session.specs.Sound.{sound}
 use Rattle.session.specs.declared.session.Session.{Session}
 use Rattle.numbers.specs.Flat.{stageTag, stageCode, stagePlace, flatten}
-use Rattle.turns.specs.declared.stage.Stage.{Stage}
+use Rattle.stages.specs.declared.stage.Stage.{Stage}
 use Rattle.numbers.specs.From.{sessionFrom}
 use Rattle.numbers.specs.declared.flat.Code.{Code}
 use Rattle.numbers.specs.declared.flat.Place.{Place}

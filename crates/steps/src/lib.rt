@@ -2,29 +2,29 @@
 ghost use mathlib.Core.Path.{_≡_};
 ghost use Prim.Native.Nat.{_≤_};
 ghost use lib.ListN.{length};
-ghost use Rattle.turns.specs.Turns.{stageAsk, stageStep};
-ghost use Rattle.turns.specs.Able.{Able, gotBy};
+ghost use Rattle.stages.specs.Turns.{stageAsk, stageStep};
+ghost use Rattle.stages.specs.Able.{Able, gotBy};
+use clearing::finish_turn;
+use clearing::status_turn;
+use clearing::wipe_turn;
+use clearing::wrote;
 use machine::ask::Ask;
 use machine::switch::Switch;
 use protocol::answer::Answer;
 use setup::setup::identified;
-use turns::stage::Stage;
-use turns::stage::Turn;
-use turns::starts::begin_off_turn;
-use turns::starts::read_turn;
-use turns::starts::status_turn;
-use turns::starts::whole_read_turn;
-use turns::starts::wrote;
-use turns::turns::begin_turn;
-use turns::turns::finish_off_turn;
-use turns::turns::finish_turn;
-use turns::turns::identify_turn;
-use turns::turns::prepare_turn;
-use turns::turns::switch_turn;
-use turns::turns::wait_turn;
-use turns::turns::whole_turn;
-use turns::turns::wipe_turn;
-use turns::turns::write_turn;
+use stages::stage::Stage;
+use stages::stage::Turn;
+use switching::begin_off_turn;
+use switching::finish_off_turn;
+use switching::switch_turn;
+use switching::whole_turn;
+use turns::begin_turn;
+use turns::identify_turn;
+use turns::prepare_turn;
+use turns::read_turn;
+use turns::wait_turn;
+use turns::whole_read_turn;
+use turns::write_turn;
 
 // `len` bytes were lent to the call.
 pub fn stage_ask(st: Stage, len: usize) -> Ask

@@ -14,8 +14,8 @@ use Rattle.machine.specs.declared.ask.Ask.{Ask}
 use Rattle.machine.specs.declared.ask.Ask.the-variants as A
 use Rattle.telling.specs.Step.{stepOf, transferStep, padded, askStep, AskFits}
 use Rattle.telling.specs.Left.{intoOut, waitsOn, framed}
-use Rattle.turns.specs.Turns.{stageAsk}
-use Rattle.turns.specs.declared.stage.Stage.{Stage}
+use Rattle.stages.specs.Turns.{stageAsk}
+use Rattle.stages.specs.declared.stage.Stage.{Stage}
 
 drop-zeros : (n m : ℕ) → drop {A = ℕ} n (replicate m 0) ≡ replicate (m - n) 0
 drop-zeros zero m = ap (λ (k : ℕ). replicate k 0) {x = m} {y = m - 0} (omega arith)

@@ -5,11 +5,11 @@
 --   StartFits o s t r n turn == a call that may be started: the lengths of its state and buffers, and its first turn
 use Prim.Native.Nat.{ℕ, _≤_}
 use Rattle.protocol.specs.Tag.{userMemory}
-use Rattle.turns.specs.Turns.{stageAsk}
-use Rattle.turns.specs.Able.{Able}
-use Rattle.turns.specs.declared.stage.Stage.{Stage}
-use Rattle.turns.specs.declared.stage.Turn.{Turn}
-use Rattle.turns.specs.declared.stage.Turn.the-variants.{Open, Over}
+use Rattle.stages.specs.Turns.{stageAsk}
+use Rattle.stages.specs.Able.{Able}
+use Rattle.stages.specs.declared.stage.Stage.{Stage}
+use Rattle.stages.specs.declared.stage.Turn.{Turn}
+use Rattle.stages.specs.declared.stage.Turn.the-variants.{Open, Over}
 use Rattle.telling.specs.Step.{AskFits}
 use Rattle.telling.specs.declared.opening.Opened.{Opened}
 use Rattle.telling.specs.declared.opening.Opened.the-variants as O

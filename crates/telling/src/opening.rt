@@ -6,9 +6,9 @@ ghost use Rattle.state.specs.Bytes.{decodeOf};
 use session::session::Now;
 use session::session::Session;
 use session::steps::out_of;
+use stages::stage::Stage;
 use state::decode::Decoded;
 use state::decode::decode;
-use turns::stage::Stage;
 
 pub enum Opened {
     // With the mark at this.

@@ -19,11 +19,11 @@ use Rattle.wipe.specs.Scrub.{scrubAsk, scrubStep}
 use Rattle.wipe.specs.declared.scrub.Scrub.{Scrub}
 use Rattle.wipe.specs.declared.scrub.Scrub.the-variants as C
 use Rattle.wipe.specs.declared.scrub.Scrubbed.the-variants.{More}
-use Rattle.turns.specs.Turns.{stageAsk, stageStep, wipeTurn, finishTurn}
-use Rattle.turns.specs.Able.{gotBy}
-use Rattle.turns.specs.declared.stage.Stage.{Stage}
-use Rattle.turns.specs.declared.stage.Turn.{Turn}
-use Rattle.turns.specs.declared.stage.Turn.the-variants.{Open}
+use Rattle.stages.specs.Turns.{stageAsk, stageStep, wipeTurn, finishTurn}
+use Rattle.stages.specs.Able.{gotBy}
+use Rattle.stages.specs.declared.stage.Stage.{Stage}
+use Rattle.stages.specs.declared.stage.Turn.{Turn}
+use Rattle.stages.specs.declared.stage.Turn.the-variants.{Open}
 use Rattle.session.specs.Sound.{scrubSound, stageSound, sound}
 use Rattle.session.specs.Steps.{counted, outOf}
 use Rattle.session.specs.declared.session.Now.the-variants as N

@@ -27,8 +27,8 @@ use Rattle.wipe.specs.Scrub.{scrubAsk, scrubStep}
 use Rattle.wipe.specs.declared.scrub.Scrub.{Scrub}
 use Rattle.wipe.specs.declared.scrub.Scrubbed.{Scrubbed}
 use Rattle.wipe.specs.declared.scrub.Scrubbed.the-variants as C
-use Rattle.turns.specs.declared.stage.Stage.{Stage}
-use Rattle.turns.specs.declared.stage.Stage.the-variants as G
+use Rattle.stages.specs.declared.stage.Stage.{Stage}
+use Rattle.stages.specs.declared.stage.Stage.the-variants as G
 use Rattle.session.specs.Sound.{scrubSound}
 use Rattle.session.specs.Steps.{counted}
 use Rattle.session.specs.declared.session.Now.the-variants as N

@@ -6,7 +6,7 @@ use denote.Ref.{now}
 use lib.ListN.{length}
 use Rattle.telling.specs.Step.{AskFits}
 use Rattle.telling.specs.Fit.{StageFits}
-use Rattle.turns.specs.Turns.{stageAsk}
+use Rattle.stages.specs.Turns.{stageAsk}
 use Rattle.machine.specs.declared.ask.Ask.{Ask}
 use Rattle.telling.proofs.Frames.{asked}
 use Rattle.telling.proofs.Frames.{fits-part, ask-step}

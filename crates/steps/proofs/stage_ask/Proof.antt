@@ -2,7 +2,7 @@ use borrow.Author.Needs.{needs}
 use Rattle.steps.proofs.stage_ask.Statement.{statement}
 use Rattle.steps.proofs.stage_ask.Tie as tie
 use mathlib.Core.Path.{subst}
-use Rattle.turns.specs.Able.{Able}
+use Rattle.stages.specs.Able.{Able}
 
 enum-told : tie.Need-enum-told
 enum-told c = search needs

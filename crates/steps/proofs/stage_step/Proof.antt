@@ -4,7 +4,7 @@ use Rattle.steps.proofs.stage_step.Tie as tie
 use mathlib.Core.Path.{subst}
 use denote.Ref.{now}
 use lib.ListN.{length}
-use Rattle.turns.specs.Able.{Able}
+use Rattle.stages.specs.Able.{Able}
 
 enum-told : tie.Need-enum-told
 enum-told c = search needs

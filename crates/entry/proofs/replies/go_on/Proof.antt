@@ -9,8 +9,8 @@ use Rattle.steps.proofs.stage_step.Reads as stage-step-reads
 use mathlib.Core.Path.{refl, subst, sym}
 use denote.Ref.{now}
 use lib.ListN.{length}
-use Rattle.turns.specs.Turns.{stageAsk}
-use Rattle.turns.specs.Able.{gotBy}
+use Rattle.stages.specs.Turns.{stageAsk}
+use Rattle.stages.specs.Able.{gotBy}
 use Rattle.telling.specs.Fit.{TurnFits}
 use Rattle.entry.proofs.Opens.{steps-able, goes-on}
 use Rattle.entry.proofs.Calls.{leaves-as, go-is, one-more}

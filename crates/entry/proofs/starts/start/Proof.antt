@@ -12,7 +12,7 @@ use mathlib.Core.List.{List}
 use Prim.Native.Nat.{ℕ, _≤_}
 use denote.Ref.{now}
 use lib.ListN.{length}
-use Rattle.turns.specs.Turns.{startOf}
+use Rattle.stages.specs.Turns.{startOf}
 use Rattle.telling.specs.Fit.{StartFits}
 use Rattle.telling.specs.Left.{startedLeft}
 use Rattle.calling.specs.Calling.{named}
