@@ -6,7 +6,7 @@ use crate::rng::Rng;
 use crate::session::call::{self, Call};
 use crate::session::host::{Host, ENOUGH};
 use crate::session::original::Session;
-use crate::session::part::{Part, GPO1, I2C_CFG};
+use crate::session::part::{Part, GPO1, I2C_CFG, RF_MNGT};
 use crate::session::reading::Lent;
 use crate::session::tricks::Tricks;
 use std::io;
@@ -15,6 +15,7 @@ pub fn fixed(cases: &mut Cases) -> io::Result<()> {
     first_day(cases)?;
     cards(cases)?;
     failures(cases)?;
+    differences(cases)?;
     out_of_turn(cases)?;
     no_state(cases)?;
     cases.pair("no_such_operation 1", crate::domain::Who::Document, "?")
@@ -81,6 +82,16 @@ fn failures(cases: &mut Cases) -> io::Result<()> {
         Call::ReadWhole { len: 8_191 },
     ];
     calls(cases, 5, of(&|_| {}), &ends)
+}
+
+/// The histories of docs/DIFFERENCES.md that no other case has: the power was cut in the first setup, after I2C_CFG and before
+/// RF_MNGT; the status is read and the whole read after it refused.
+fn differences(cases: &mut Cases) -> io::Result<()> {
+    let mut half = good();
+    half.system[RF_MNGT] = 0;
+    calls(cases, 0, Box::new(half), &[Call::Prepare, Call::Begin])?;
+    let refused = Part { status: 0x80, lost: Some(3), ..good() };
+    calls(cases, 7, Box::new(refused), &[Call::ReadWhole { len: 8_192 }, Call::RfWrote])
 }
 
 /// 31, 32 and 33; `next` and `dirty`; the tricks of a host, from a fixed seed.

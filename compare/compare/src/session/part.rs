@@ -12,6 +12,7 @@ const I2C_SSO_DYN: usize = 0x2004;
 const IT_STS_DYN: usize = 0x2005;
 /// Places in the system area.
 pub const GPO1: usize = 0x00;
+pub const RF_MNGT: usize = 0x03;
 pub const I2C_CFG: usize = 0x0E;
 const MEM_SIZE: usize = 0x14;
 pub const UID_LAST: usize = 0x1F;
