@@ -11,7 +11,6 @@
 --   e1Len third            == bytes of a container that begins with E1: eight where its third byte is 0, else four
 --   containerLen s         == bytes of the container: by its third byte after E1, eight after E2; any other is none (0)
 --   readOf image           == the message of an image; a container not all there, or with the top two bits of byte 1 not 01, is none
---   lengthNumber l         == document 01's number: 13 where the length is not all there, else 0
 --   numberOf m             == document 01's number: 11, 12, 13, and 0 where there is a message
 use mathlib.Core.List.{List}
 use Prim.Native.Nat.{ℕ, _+_, _-_, _*_, _/_}
@@ -68,10 +67,6 @@ readOf image =
     pick (eqb (containerLen image) 0) NoContainer
     (pick (ltb (length image) (containerLen image)) NoContainer
     (pick (eqb (getD image 1 0 / 64) 1) (messageFrom image (containerLen image)) NoContainer))
-
-abbrev pub lengthNumber : Length → ℕ
-lengthNumber (Of len size) = 0
-lengthNumber Missing = 13
 
 abbrev pub numberOf : Message → ℕ
 numberOf (At place len) = 0

@@ -4,14 +4,11 @@ use mathlib.Core.Logic.{⊎-elim}
 use Prim.Native.Nat.{ℕ, _+_, _≤_, _<_}
 use native.Mathlib.Omega.{arith}
 use borrow.Author.Tests.{lt-ltb, le-ltb}
-use lib.Dec.{ltb, leb}
+use lib.Dec.{ltb}
 use Rattle.slices.proofs.Cases.{lt-or-ge, pick-cases}
 use Rattle.layout.specs.Lengths.{sat, headLen, recordLen, blockLen, imageLen}
 
--- a head takes at most 6 bytes, and what stands before a block's body at most 4
-pub head-at-most : (p : ℕ) → headLen p ≤ 6
-head-at-most p = pick-cases (λ (n : ℕ). n ≤ 6) (leb p 255) (λ e. omega arith) (λ e. omega arith)
-
+-- what stands before a block's body takes at most 4 bytes
 pub block-at-most : (n : ℕ) → blockLen n ≤ 4
 block-at-most n = pick-cases (λ (m : ℕ). m ≤ 4) (ltb n 255) (λ e. omega arith) (λ e. omega arith)
 

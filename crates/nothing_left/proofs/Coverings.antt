@@ -9,8 +9,8 @@ use lib.Dec.{eqb}
 use lib.ListN.{length, getD, List·getD-eq-default}
 use borrow.Author.Tests.{eqb-true, eqb-false}
 use Rattle.slices.proofs.Cases.{lt-or-ge}
-use Rattle.protocol.specs.Mark.{Mark, covers, whole, widened, found, isNone, wipeEnd}
-use Rattle.protocol.proofs.Marks.{covers-whole, covers-kept, covers-written, covers-found, covers-nothing, covers-wiped}
+use Rattle.protocol.specs.Mark.{Mark, covers, whole, widened, found, wipeEnd}
+use Rattle.protocol.proofs.Marks.{covers-whole, covers-kept, covers-written, covers-found, covers-wiped}
 use Rattle.nothing_left.specs.Runs.{Empty}
 use Rattle.nothing_left.specs.Sessions.{Covered}
 use Rattle.nothing_left.proofs.Memories.{Changed, Wiped}
@@ -52,8 +52,3 @@ emptied m M N l v w = record { size = w .changed .len ∙ l; zero = λ i. ⊎-el
   where
     beyond : (i : ℕ) → wipeEnd m ≤ i → getD N i 0 ≡ 0
     beyond i h = w .changed .outside i (inr h) ∙ ⊎-elim (λ e. e) (λ n. absurd (let g = covers-wiped m i (inside M l i n) (v i n) in omega arith)) (zero-or-not (getD M i 0))
-
--- where nothing is covered, there is nothing
-pub empty-none : (m : Mark) (M : List ℕ) → length M ≡ 8192 → isNone m ≡ true → Covered m M → Empty M
-unfolding Covered
-empty-none m M l e v = record { size = l; zero = λ i. ⊎-elim (λ z. z) (λ n. absurd (covers-nothing m i e (v i n))) (zero-or-not (getD M i 0)) }

@@ -1,16 +1,14 @@
 -- Laws of the mark: what it covers, and that it stays inside the part.
 use mathlib.Core.Path.{_≡_}
-use mathlib.Core.Bool.{true}
 use mathlib.Core.List.{List}
 use mathlib.Core.Logic.{⊎-elim}
 use Prim.Native.Nat.{ℕ, _%_, _≤_, _<_}
 use native.Mathlib.Omega.{arith}
 use lib.ListN.{length, getD}
-use borrow.Author.Tests.{ltb-true}
 use Rattle.slices.proofs.Cases.{lt-or-ge}
 use Rattle.scan.specs.Zeros.{highWater}
 use Rattle.scan.proofs.Highs.{high-zeros, high-inside}
-use Rattle.protocol.specs.Mark.{Mark, covers, none, whole, given, widened, found, isNone, wipeEnd}
+use Rattle.protocol.specs.Mark.{Mark, covers, none, whole, given, widened, found, wipeEnd}
 
 -- nothing is covered
 pub covers-none : (i : ℕ) → covers none i → ⊥
@@ -35,11 +33,6 @@ covers-written m at end i l h = omega arith
 pub covers-found : (bs : List ℕ) (i : ℕ) → (getD bs i 0 ≡ 0 → ⊥) → covers (found bs) i
 unfolding covers found
 covers-found bs i n = ⊎-elim (λ h. h) (λ h. absurd (n (high-zeros bs i h))) (lt-or-ge i (highWater bs))
-
--- a mark with nothing to wipe covers nothing
-pub covers-nothing : (m : Mark) (i : ℕ) → isNone m ≡ true → covers m i → ⊥
-unfolding covers isNone
-covers-nothing m i e h = omega (arith, ltb-true m 1 e)
 
 -- a wipe reaches what is covered, ends with a row and inside the part
 pub covers-wiped : (m : Mark) (i : ℕ) → i < 8192 → covers m i → i < wipeEnd m
