@@ -1,4 +1,3 @@
 pub mod Asks
 pub mod Opens
 pub mod Calls
-pub mod Counts

@@ -1,5 +1,2 @@
-// A call is started and a reply is taken, on the lent state and buffers. Each function returns the 64-bit step (telling/specs/Step) and leaves
-// in the lent buffers what telling/specs/Left says, for all inputs.
-pub mod replies;
-pub mod rows;
-pub mod starts;
+// What holds where a call is started or goes on: what is asked for fits the lent buffers, and the code comes to what telling/specs/Left says.
+// No code: that is in `starting`, `replying` and `asking`.

@@ -1,7 +1,6 @@
 // The session's replies: the open call's next transfer, a reply to it, the mark, and a new session.
 ghost use mathlib.Core.Path.{_≡_};
 ghost use Rattle.telling.specs.Left.{Leaves, replyLeft, nextLeft, newStep, newState, dirtyStep};
-use entry::replies;
 
 // A reply: 0 for refused, any other number for acknowledged.
 #[no_mangle]
@@ -15,7 +14,7 @@ pub extern "C" fn skp_tag_reply(
 ) -> u64
     ensures { λ r. ⌜ Leaves (replyLeft (now (state .entry)) (now (transfer .entry)) (now (reply .entry)) (now (lent .entry)) (now (out .entry)) ack) r (now (state .exit)) (now (transfer .exit)) (now (reply .exit)) ⌝ }
 {
-    replies::reply(state, transfer, reply, lent, out, ack)
+    replying::reply(state, transfer, reply, lent, out, ack)
 }
 
 // The open call's transfer once more; nothing else changes.
@@ -29,7 +28,7 @@ pub extern "C" fn skp_tag_next(
 ) -> u64
     ensures { λ r. ⌜ Leaves (nextLeft (now (state .entry)) (now (transfer .entry)) (now (reply .entry)) (now (lent .entry)) (now (out .entry))) r (now (state .entry)) (now (transfer .exit)) (now (reply .entry)) ⌝ }
 {
-    replies::next(state, transfer, reply, lent, out)
+    asking::next(state, transfer, reply, lent, out)
 }
 
 // A session whose mark is the smaller of `mark` and 8,192. Only a wrong length is refused.
@@ -37,7 +36,7 @@ pub extern "C" fn skp_tag_next(
 pub extern "C" fn skp_tag_new(state: &mut [u8], mark: usize) -> u64
     ensures { λ r. ⌜ (r ≡ newStep (now (state .entry))) × (now (state .exit) ≡ newState (now (state .entry)) mark) ⌝ }
 {
-    replies::new(state, mark)
+    asking::new(state, mark)
 }
 
 // The end of everything that may be non-zero; answered inside an open call too.
@@ -45,5 +44,5 @@ pub extern "C" fn skp_tag_new(state: &mut [u8], mark: usize) -> u64
 pub extern "C" fn skp_tag_dirty(state: &[u8]) -> u64
     ensures { λ r. ⌜ r ≡ dirtyStep (now (state .entry)) ⌝ }
 {
-    replies::dirty(state)
+    asking::dirty(state)
 }

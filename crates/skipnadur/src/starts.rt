@@ -5,7 +5,7 @@ ghost use lib.ListN.{length};
 ghost use Rattle.protocol.specs.Call as call;
 ghost use Rattle.telling.specs.Left.{Leaves, startLeft};
 use calling::Call;
-use entry::starts::start;
+use starting::start;
 
 #[no_mangle]
 pub extern "C" fn skp_tag_identify(state: &mut [u8], transfer: &mut [u8], reply: &mut [u8]) -> u64

@@ -1,0 +1,65 @@
+-- Which stages wait on a row write, and what is counted.
+use mathlib.Core.Path.{_≡_, refl, sym, ap, _∙_}
+use mathlib.Core.Bool.{Bool, true, false, _&&_}
+use Prim.Native.Nat.{ℕ}
+use Rattle.slices.specs.Pick.{pick}
+use Rattle.machine.specs.Wait.{waitAsk}
+use Rattle.machine.specs.declared.wait.Wait.{Wait}
+use Rattle.machine.specs.declared.wait.Wait.the-variants as W
+use Rattle.machine.specs.Switch.{switchAsk}
+use Rattle.machine.specs.declared.switch.Switch.{Switch}
+use Rattle.machine.specs.declared.switch.Switch.the-variants as S
+use Rattle.machine.specs.declared.ask.Ask.{Ask}
+use Rattle.machine.specs.declared.ask.Ask.the-variants as A
+use Rattle.setup.specs.Setup.{setupAsk}
+use Rattle.setup.specs.declared.open.Open.the-variants as O
+use Rattle.setup.specs.declared.store.Store.the-variants as T
+use Rattle.setup.specs.declared.setup.Setup.{Setup}
+use Rattle.setup.specs.declared.setup.Setup.the-variants as U
+use Rattle.stages.specs.Turns.{stageAsk}
+use Rattle.stages.specs.declared.stage.Stage.{Stage}
+use Rattle.session.specs.Steps.{counted}
+use Rattle.counting.specs.Rows.{asksRow, StageRow, StageCount}
+
+pub wait-row : (w : Wait) → false ≡ asksRow (waitAsk w)
+wait-row (W.Poll n) = refl
+wait-row (W.Pause n) = refl
+
+pub switch-row : (s : Switch) → false ≡ asksRow (switchAsk s)
+switch-row (S.Flip true n) = refl
+switch-row (S.Flip false n) = refl
+switch-row (S.Clear n) = refl
+switch-row (S.Look on n) = refl
+switch-row (S.Rest on n) = refl
+
+pub setup-row : (s : Setup) → false ≡ asksRow (setupAsk s)
+setup-row U.Identify = refl
+setup-row U.Config = refl
+setup-row (U.Open first O.Present) = refl
+setup-row (U.Open first (O.Wait w)) = wait-row w
+setup-row (U.Open first O.Look) = refl
+setup-row (U.Store j T.Send) = refl
+setup-row (U.Store j T.Pause) = refl
+setup-row (U.Store j (T.Wait w)) = wait-row w
+setup-row (U.Store j T.Look) = refl
+setup-row U.Events = refl
+
+count-by : (a : Ask) (ack : Bool) → pick (ack && asksRow a) 1 0 ≡ counted a ack
+count-by (A.Address dev) true = refl
+count-by (A.Byte dev at value) true = refl
+count-by A.Password true = refl
+count-by (A.Zeros at) true = refl
+count-by (A.Row at from n) true = refl
+count-by (A.Read dev at n) true = refl
+count-by (A.Delay ms) true = refl
+count-by (A.Address dev) false = refl
+count-by (A.Byte dev at value) false = refl
+count-by A.Password false = refl
+count-by (A.Zeros at) false = refl
+count-by (A.Row at from n) false = refl
+count-by (A.Read dev at n) false = refl
+count-by (A.Delay ms) false = refl
+
+pub count-of : (st : Stage) (ack b t : Bool) → StageRow st b → (ack && b) ≡ t → StageCount st ack (pick t 1 0)
+count-of st ack b t h e n =
+    sym (ap (λ (x : Bool). pick x 1 0) e) ∙ (ap (λ (x : Bool). pick (ack && x) 1 0) (h n) ∙ count-by (stageAsk n st) ack)
