@@ -1,1 +1,2 @@
 pub mod Settles
+mod Others

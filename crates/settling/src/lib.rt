@@ -27,23 +27,9 @@ fn into_out(st: Stage) -> bool
     ensures { λ r. ⌜ r ≡ intoOut st ⌝ }
 {
     match st {
-        Stage::Identify => false,
-        Stage::Prepare(_) => false,
-        Stage::WaitReady(_) => false,
         Stage::ReadUser(_, _) => true,
-        Stage::Write(_) => false,
-        Stage::Switching(_) => false,
-        Stage::RfWrote => false,
-        Stage::WholeOff(_) => false,
-        Stage::WholeStatus => false,
         Stage::WholeRead => true,
-        Stage::Wipe(_) => false,
-        Stage::BeginSetup(_) => false,
-        Stage::BeginOff(_) => false,
-        Stage::LiveStatus => false,
-        Stage::FinishOff(_) => false,
-        Stage::FinishStatus(_) => false,
-        Stage::FinishWipe(_, _) => false,
+        _ => false,
     }
 }
 

@@ -33,8 +33,8 @@ returns c =
     let a = c .before .before .before .before .before .args in
     let n : a .i + 1024 - a .i ≡ 1024 = omega arith in
     c .before .copy-to .ensures .bytes
-        ∙ splice-whole _ _ (sym (ap (λ (m : ℕ). length (take m (drop (a .i) (now (a .src))))) n ∙ length-take-le 1024 (drop (a .i) (now (a .src))) (omega (arith, length-drop (a .i) (now (a .src)), c .before .before .before .before .before .pre))))
-        ∙ ap (λ (m : ℕ). take m (drop (a .i) (now (a .src)))) n
+    ∙ splice-whole _ _ (sym (ap (λ (m : ℕ). length (take m (drop (a .i) (now (a .src))))) n ∙ length-take-le 1024 (drop (a .i) (now (a .src))) (omega (arith, length-drop (a .i) (now (a .src)), c .before .before .before .before .before .pre))))
+    ∙ ap (λ (m : ℕ). take m (drop (a .i) (now (a .src)))) n
 
 pub block-at-spec : {M : Type 1} → statement M
 block-at-spec =

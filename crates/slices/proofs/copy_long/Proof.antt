@@ -40,7 +40,7 @@ slice-aggregate-copy-to : tie.Need-slice-aggregate-copy-to Inv-loop μ-loop
 slice-aggregate-copy-to c = search needs
 
 copy-to-requires : tie.Need-copy-to-requires Inv-loop μ-loop
-copy-to-requires c κs = 
+copy-to-requires c κs =
     let l = c .before .before .before .before in
     let src = now (l .before .before .before .args .src) in
     let e = ap length (c .before .block-at .ensures) ∙ length-take-le 1024 (drop (l .loop .i) src) (omega (arith, length-drop (l .loop .i) src)) in
@@ -53,7 +53,7 @@ loop-less : tie.Need-loop-less Inv-loop μ-loop
 loop-less c = omega arith
 
 loop-again : tie.Need-loop-again Inv-loop μ-loop
-loop-again c = 
+loop-again c =
     let l = c .before .before .before .before .before .before .before in
     let a = l .before .before .before in
     let i = l .loop .i in
@@ -73,14 +73,14 @@ part-copy-to-end : tie.Need-part-copy-to-end Inv-loop μ-loop
 part-copy-to-end c = omega arith
 
 copy-to-requires-2 : tie.Need-copy-to-requires-2 Inv-loop μ-loop
-copy-to-requires-2 c κs = 
+copy-to-requires-2 c κs =
     let l = c .before .before .before in
     let src = now (l .before .before .before .args .src) in
     let e = ap length (part-rest src (l .loop .i)) ∙ length-drop (l .loop .i) src in
     omega (arith, e, kept l, l .before .before .before .pre)
 
 returns : tie.Need-returns Inv-loop μ-loop
-returns c = 
+returns c =
     let l = c .before .before .before .before .before .before in
     let a = l .before .before .before in
     let src = now (a .args .src) in
