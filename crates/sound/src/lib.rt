@@ -2,10 +2,10 @@
 ghost use mathlib.Core.Path.{_≡_};
 ghost use Prim.Native.Nat.{_+_, _≤_};
 ghost use Rattle.session.specs.Sound.{waitSound, openSound, storeSound, setupSound, switchSound, offSound, chunkStop, toCome, rowSound, scrubSound, under, rowsTo, pieceRows, checkRows, writeSound, plain, stageSound, nowSound, sound};
-use calling::past;
 use clearing::wipe_end;
 use machine::switch::Switch;
 use machine::wait::Wait;
+use ranged::past;
 use scan::rows::row_count;
 use session::session::Now;
 use session::session::Session;

@@ -1,6 +1,6 @@
 use borrow.Author.Needs.{needs}
-use Rattle.calling.proofs.widened.Statement.{statement}
-use Rattle.calling.proofs.widened.Tie as tie
+use Rattle.ranged.proofs.widened.Statement.{statement}
+use Rattle.ranged.proofs.widened.Tie as tie
 use native.Mathlib.Omega.{arith}
 use Rattle.protocol.specs.Mark.{widened}
 

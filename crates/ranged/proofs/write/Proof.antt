@@ -1,11 +1,11 @@
 use borrow.Author.Needs.{needs}
-use Rattle.calling.proofs.write.Statement.{statement}
-use Rattle.calling.proofs.write.Tie as tie
+use Rattle.ranged.proofs.write.Statement.{statement}
+use Rattle.ranged.proofs.write.Tie as tie
 use denote.Ref.{now}
 use lib.ListN.{length}
 use native.Mathlib.Omega.{arith}
 use Prim.Native.Nat.{_+_, _≤_}
-use Rattle.calling.proofs.Ends.{not-past}
+use Rattle.ranged.proofs.Ends.{not-past}
 
 past-requires : tie.Need-past-requires
 past-requires c κs = search needs

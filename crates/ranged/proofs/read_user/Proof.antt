@@ -1,6 +1,6 @@
 use borrow.Author.Needs.{needs}
-use Rattle.calling.proofs.read_user.Statement.{statement}
-use Rattle.calling.proofs.read_user.Tie as tie
+use Rattle.ranged.proofs.read_user.Statement.{statement}
+use Rattle.ranged.proofs.read_user.Tie as tie
 
 past-requires : tie.Need-past-requires
 past-requires c κs = search needs

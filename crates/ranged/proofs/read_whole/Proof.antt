@@ -1,6 +1,6 @@
 use borrow.Author.Needs.{needs}
-use Rattle.calling.proofs.read_whole.Statement.{statement}
-use Rattle.calling.proofs.read_whole.Tie as tie
+use Rattle.ranged.proofs.read_whole.Statement.{statement}
+use Rattle.ranged.proofs.read_whole.Tie as tie
 use borrow.Author.Tests.{eq-eqb, ne-eqb}
 
 new-requires : tie.Need-new-requires

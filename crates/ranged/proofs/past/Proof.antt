@@ -1,10 +1,10 @@
-use Rattle.calling.proofs.past.Statement.{statement}
-use Rattle.calling.proofs.past.Tie as tie
+use Rattle.ranged.proofs.past.Statement.{statement}
+use Rattle.ranged.proofs.past.Tie as tie
 use mathlib.Core.Path.{sym}
 use Prim.Native.Nat.{_+_}
 use borrow.Author.Tests.{lt-ltb}
 use native.Mathlib.Omega.{arith}
-use Rattle.calling.proofs.Ends.{past-near}
+use Rattle.ranged.proofs.Ends.{past-near}
 
 returns : tie.Need-returns
 returns c = sym (lt-ltb 8192 (c .before .args .at + c .before .args .n) (omega (arith, c .if1 .taken)))
