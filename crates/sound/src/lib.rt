@@ -5,14 +5,14 @@ ghost use Rattle.session.specs.Sound.{waitSound, openSound, storeSound, setupSo
 use clearing::wipe_end;
 use machine::switch::Switch;
 use machine::wait::Wait;
+use password::Open;
 use ranged::past;
 use scan::rows::row_count;
 use session::session::Now;
 use session::session::Session;
-use setup::open::Open;
 use setup::setup::Setup;
-use setup::store::Store;
 use stages::stage::Stage;
+use storing::Store;
 use wipe::scrub::Chunk;
 use wipe::scrub::Rows;
 use wipe::scrub::Scrub;
