@@ -8,6 +8,7 @@ ghost use Rattle.telling.specs.Left.{Leaves, intoOut, framed, waitsOn, settled,
 ghost use Rattle.protocol.specs.Answer.{answerNumber, answerValue};
 ghost use Rattle.telling.specs.Step.{answerStep, transferStep};
 ghost use Rattle.telling.specs.Fit.{StageFits, TurnFits, StartFits};
+use decoding::encode;
 use protocol::answer::Answer;
 use session::session::Session;
 use session::steps::entered;
@@ -15,7 +16,6 @@ use slices::copy_to;
 use stages::stage::Stage;
 use stages::stage::Turn;
 use state::bytes::wide;
-use state::decode::encode;
 use steps::stage_ask;
 use telling::frame::frame;
 use telling::opening::Opened;

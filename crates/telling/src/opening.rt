@@ -3,12 +3,12 @@ ghost use mathlib.Core.Path.{_≡_};
 ghost use lib.ListN.{length};
 ghost use Rattle.telling.specs.Left.{short, openedNow, openedBy, openedOf, markOf, misfit, heardNow, heardBy};
 ghost use Rattle.state.specs.Bytes.{decodeOf};
+use decoding::decode;
 use session::session::Now;
 use session::session::Session;
 use session::steps::out_of;
 use stages::stage::Stage;
 use state::decode::Decoded;
-use state::decode::decode;
 
 pub enum Opened {
     // With the mark at this.
