@@ -15,6 +15,7 @@ use crate::after::after_poll;
 use crate::after::after_read;
 use crate::after::after_reread;
 use crate::after::after_row;
+use framing::frame;
 use numbers::flat::Code;
 use numbers::flat::Flat;
 use numbers::flat::Place;
@@ -27,7 +28,6 @@ use slices::copy_to;
 use state::bytes::STATE_LEN;
 use state::bytes::bytes;
 use state::bytes::flat_of;
-use telling::frame::frame;
 use telling::step::ask_step;
 use wipe::scrub::Scrub;
 

@@ -5,7 +5,7 @@ use Rattle.wiping.proofs.short.leave.Reads as reads
 use Rattle.wiping.proofs.short.leave.Lts as lts
 use Rattle.slices.proofs.copy_to.Reads as copy-to-reads
 use Rattle.state.proofs.bytes.bytes.Reads as bytes-reads
-use Rattle.telling.proofs.frame.frame.Reads as frame-reads
+use Rattle.framing.proofs.frame.Reads as frame-reads
 use Rattle.telling.proofs.step.ask_step.Reads as ask-step-reads
 use Rattle.wipe.proofs.scrub.Scrub.ask.Reads as ask-reads
 use Rattle.telling.specs.Step.{AskFits}

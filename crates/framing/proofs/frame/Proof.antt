@@ -1,13 +1,13 @@
 use borrow.Author.Needs.{needs}
-use Rattle.telling.proofs.frame.frame.Statement.{statement}
-use Rattle.telling.proofs.frame.frame.Tie as tie
+use Rattle.framing.proofs.frame.Statement.{statement}
+use Rattle.framing.proofs.frame.Tie as tie
 use mathlib.Core.Path.{subst, ap, _∙_}
 use mathlib.Core.List.{_++_}
 use Rattle.protocol.specs.Transfer.{place}
 use Rattle.telling.proofs.Frames.{part-of, part-short}
 use denote.Ref.{now}
 use lib.ListN.{length}
 use Rattle.telling.specs.Step.{AskFits, padded}
 use native.Mathlib.Omega.{arith}
 
 enum-told : tie.Need-enum-told

@@ -1,10 +1,10 @@
 use borrow.Author.Needs.{needs}
-use Rattle.telling.proofs.frame.row.Statement.{statement}
-use Rattle.telling.proofs.frame.row.Tie as tie
+use Rattle.framing.proofs.row.Statement.{statement}
+use Rattle.framing.proofs.row.Tie as tie
 use mathlib.Core.Path.{_∙_, ap}
 use denote.Ref.{now}
 use Rattle.slices.specs.Bytes.{splice}
 use Rattle.telling.proofs.Frames.{row-framed}
 
 head-requires : tie.Need-head-requires
 head-requires c κs = search needs

@@ -1,6 +1,6 @@
 use borrow.Author.Needs.{needs}
-use Rattle.telling.proofs.opening.mark_of.Statement.{statement}
-use Rattle.telling.proofs.opening.mark_of.Tie as tie
+use Rattle.opening.proofs.mark_of.Statement.{statement}
+use Rattle.opening.proofs.mark_of.Tie as tie
 use Rattle.protocol.specs.Mark.{none}
 
 enum-known-o : tie.Need-enum-known-o

@@ -1,6 +1,6 @@
 use borrow.Author.Needs.{needs}
-use Rattle.telling.proofs.opening.opened_at.Statement.{statement}
-use Rattle.telling.proofs.opening.opened_at.Tie as tie
+use Rattle.opening.proofs.opened_at.Statement.{statement}
+use Rattle.opening.proofs.opened_at.Tie as tie
 
 decode-requires : tie.Need-decode-requires
 decode-requires c κs = search needs
