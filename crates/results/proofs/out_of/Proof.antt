@@ -1,6 +1,6 @@
 use borrow.Author.Needs.{needs}
-use Rattle.session.proofs.steps.out_of.Statement.{statement}
-use Rattle.session.proofs.steps.out_of.Tie as tie
+use Rattle.results.proofs.out_of.Statement.{statement}
+use Rattle.results.proofs.out_of.Tie as tie
 
 enum-told : tie.Need-enum-told
 enum-told c = search needs

@@ -1,10 +1,10 @@
-// The steps of a session by value: what a call leaves, and what it counts.
+// What a turn leaves of a session, what a reply counts, and how long `out` is.
 ghost use mathlib.Core.Path.{_≡_};
 ghost use Rattle.slices.specs.Pick.{pick};
 ghost use Rattle.session.specs.Steps.{entered, counted, outOf};
-use crate::session::Now;
-use crate::session::Session;
 use machine::ask::Ask;
+use session::session::Now;
+use session::session::Session;
 use stages::stage::Stage;
 use stages::stage::Turn;
 

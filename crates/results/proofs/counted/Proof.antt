@@ -1,6 +1,6 @@
 use borrow.Author.Needs.{needs}
-use Rattle.session.proofs.steps.counted.Statement.{statement}
-use Rattle.session.proofs.steps.counted.Tie as tie
+use Rattle.results.proofs.counted.Statement.{statement}
+use Rattle.results.proofs.counted.Tie as tie
 
 enum-told : tie.Need-enum-told
 enum-told c = search needs

@@ -1,6 +1,6 @@
 use borrow.Author.Needs.{needs}
-use Rattle.session.proofs.steps.entered.Statement.{statement}
-use Rattle.session.proofs.steps.entered.Tie as tie
+use Rattle.results.proofs.entered.Statement.{statement}
+use Rattle.results.proofs.entered.Tie as tie
 
 enum-known-t : tie.Need-enum-known-t
 enum-known-t c = search needs
