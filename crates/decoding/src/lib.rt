@@ -1,10 +1,10 @@
 // Reading a state: bytes that no call leaves are none. And the bytes of one.
 ghost use mathlib.Core.Path.{_≡_};
 ghost use Rattle.state.specs.Bytes.{decodeFlat, decodeOf, encode};
+use flattening::flatten;
 use numbers::flat::Flat;
-use numbers::from::session_from;
-use numbers::into::flatten;
 use owning::own;
+use restoring::session_from;
 use session::session::Session;
 use sound::sound;
 use state::bytes::STATE_LEN;

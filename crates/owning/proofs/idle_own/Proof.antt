@@ -3,7 +3,7 @@ use Rattle.owning.proofs.idle_own.Statement.{statement}
 use Rattle.owning.proofs.idle_own.Tie as tie
 use Rattle.owning.proofs.idle_own.Reads as reads
 use Rattle.owning.proofs.idle_own.Lts as lts
-use Rattle.numbers.proofs.into.code.Reads as code-reads
+use Rattle.flattening.proofs.code.Reads as code-reads
 use Rattle.owning.proofs.nowhere.Reads as nowhere-reads
 use mathlib.Core.Path.{refl}
 use Rattle.numbers.specs.Flat.{noCode}

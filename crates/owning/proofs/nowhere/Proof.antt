@@ -3,7 +3,7 @@ use Rattle.owning.proofs.nowhere.Statement.{statement}
 use Rattle.owning.proofs.nowhere.Tie as tie
 use Rattle.owning.proofs.nowhere.Reads as reads
 use Rattle.owning.proofs.nowhere.Lts as lts
-use Rattle.numbers.proofs.into.place.Reads as place-reads
+use Rattle.flattening.proofs.place.Reads as place-reads
 use Rattle.owning.proofs.same_code.Reads as same-code-reads
 use Rattle.owning.proofs.same_place.Reads as same-place-reads
 use mathlib.Core.Path.{refl}

@@ -3,8 +3,8 @@ use Rattle.owning.proofs.read_own.Statement.{statement}
 use Rattle.owning.proofs.read_own.Tie as tie
 use Rattle.owning.proofs.read_own.Reads as reads
 use Rattle.owning.proofs.read_own.Lts as lts
-use Rattle.numbers.proofs.into.code.Reads as code-reads
-use Rattle.numbers.proofs.into.place.Reads as place-reads
+use Rattle.flattening.proofs.code.Reads as code-reads
+use Rattle.flattening.proofs.place.Reads as place-reads
 use Rattle.owning.proofs.same_code.Reads as same-code-reads
 use Rattle.owning.proofs.same_place.Reads as same-place-reads
 use Rattle.owning.proofs.Owns.{both-same}

@@ -3,9 +3,9 @@ use Rattle.owning.proofs.scrub_own.Statement.{statement}
 use Rattle.owning.proofs.scrub_own.Tie as tie
 use Rattle.owning.proofs.scrub_own.Reads as reads
 use Rattle.owning.proofs.scrub_own.Lts as lts
-use Rattle.numbers.proofs.from.scrub_from.Reads as scrub-from-reads
-use Rattle.numbers.proofs.into.scrub_code.Reads as scrub-code-reads
-use Rattle.numbers.proofs.into.scrub_place.Reads as scrub-place-reads
+use Rattle.restoring.proofs.scrub_from.Reads as scrub-from-reads
+use Rattle.flattening.proofs.scrub_code.Reads as scrub-code-reads
+use Rattle.flattening.proofs.scrub_place.Reads as scrub-place-reads
 use Rattle.owning.proofs.same_code.Reads as same-code-reads
 use Rattle.owning.proofs.same_place.Reads as same-place-reads
 use mathlib.Core.Path.{ap, _∙_}

@@ -3,7 +3,7 @@ use Rattle.shortcut.proofs.by_chunk.Statement.{statement}
 use Rattle.shortcut.proofs.by_chunk.Tie as tie
 use Rattle.shortcut.proofs.by_chunk.Reads as reads
 use Rattle.shortcut.proofs.by_chunk.Lts as lts
-use Rattle.numbers.proofs.from.chunk_from.Reads as chunk-from-reads
+use Rattle.restoring.proofs.chunk_from.Reads as chunk-from-reads
 use Rattle.onward.proofs.after_read.Reads as after-read-reads
 use Rattle.onward.proofs.after_reread.Reads as after-reread-reads
 use Rattle.shortcut.proofs.bare.Reads as bare-reads

@@ -3,8 +3,8 @@ use Rattle.shortcut.proofs.moved.Statement.{statement}
 use Rattle.shortcut.proofs.moved.Tie as tie
 use Rattle.shortcut.proofs.moved.Reads as reads
 use Rattle.shortcut.proofs.moved.Lts as lts
-use Rattle.numbers.proofs.into.scrub_code.Reads as scrub-code-reads
-use Rattle.numbers.proofs.into.scrub_place.Reads as scrub-place-reads
+use Rattle.flattening.proofs.scrub_code.Reads as scrub-code-reads
+use Rattle.flattening.proofs.scrub_place.Reads as scrub-place-reads
 
 scrub-code-requires : tie.Need-scrub-code-requires
 scrub-code-requires c κs = search needs
