@@ -2,14 +2,14 @@
 ghost use mathlib.Core.Path.{_≡_};
 ghost use Rattle.telling.specs.Left.{Leaves, nextLeft, newStep, newState, dirtyDecoded, dirtyStep};
 ghost use Rattle.entry.specs.Going.{Inside};
+use decoding::decode;
+use opening::heard_at;
 use session::session::Session;
 use settling::ask;
 use settling::store;
 use state::bytes::STATE_LEN;
 use state::decode::Decoded;
-use state::decode::decode;
 use telling::opening::Heard;
-use telling::opening::heard_at;
 use telling::step::step;
 
 // The open call's transfer once more; nothing else changes.

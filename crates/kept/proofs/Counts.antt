@@ -25,8 +25,8 @@ use Rattle.machine.specs.declared.wait.Wait.{Wait}
 use Rattle.machine.specs.declared.wait.Wait.the-variants.{Poll, Pause}
 use Rattle.machine.specs.declared.switch.Switch.{Switch}
 use Rattle.machine.specs.declared.switch.Switch.the-variants.{Flip, Clear, Look, Rest}
-use Rattle.setup.specs.declared.open.Open.the-variants as O
-use Rattle.setup.specs.declared.store.Store.the-variants as T
+use Rattle.password.specs.declared.Open.the-variants as O
+use Rattle.storing.specs.declared.Store.the-variants as T
 use Rattle.setup.specs.declared.setup.Setup.{Setup}
 use Rattle.setup.specs.declared.setup.Setup.the-variants as I
 use Rattle.wipe.specs.declared.scrub.Scrub.{Scrub}

@@ -13,8 +13,8 @@ use Rattle.protocol.specs.Setup.{isThePart, isSetUp, reports}
 use Rattle.machine.specs.Ask.{first}
 use Rattle.machine.specs.Wait.{waitStep, waitAsk, pollAfter}
 use Rattle.machine.specs.Switch.{switchStep, switchAsk, wanted, tryAfter}
-use Rattle.setup.specs.Open.{openStep, openWaited}
-use Rattle.setup.specs.Store.{storeStep, storeWaited}
+use Rattle.password.specs.Open.{openStep, openWaited}
+use Rattle.storing.specs.Store.{storeStep, storeWaited}
 use Rattle.setup.specs.Setup.{setupStep, setupAsk, jobValue, setupOpened, setupStored}
 use Rattle.machine.specs.declared.wait.Wait.{Wait}
 use Rattle.machine.specs.declared.wait.Wait.the-variants.{Poll, Pause}
@@ -24,14 +24,14 @@ use Rattle.machine.specs.declared.switch.Switch.{Switch}
 use Rattle.machine.specs.declared.switch.Switch.the-variants.{Flip, Clear, Look, Rest}
 use Rattle.machine.specs.declared.switch.Switched.{Switched}
 use Rattle.machine.specs.declared.switch.Switched.the-variants as S
-use Rattle.setup.specs.declared.open.Open.{Open}
-use Rattle.setup.specs.declared.open.Open.the-variants as O
-use Rattle.setup.specs.declared.open.Opened.{Opened}
-use Rattle.setup.specs.declared.open.Opened.the-variants as Od
-use Rattle.setup.specs.declared.store.Store.{Store}
-use Rattle.setup.specs.declared.store.Store.the-variants as T
-use Rattle.setup.specs.declared.store.Stored.{Stored}
-use Rattle.setup.specs.declared.store.Stored.the-variants as Sd
+use Rattle.password.specs.declared.Open.{Open}
+use Rattle.password.specs.declared.Open.the-variants as O
+use Rattle.password.specs.declared.Opened.{Opened}
+use Rattle.password.specs.declared.Opened.the-variants as Od
+use Rattle.storing.specs.declared.Store.{Store}
+use Rattle.storing.specs.declared.Store.the-variants as T
+use Rattle.storing.specs.declared.Stored.{Stored}
+use Rattle.storing.specs.declared.Stored.the-variants as Sd
 use Rattle.setup.specs.declared.setup.Job.{Job}
 use Rattle.setup.specs.declared.setup.Job.the-variants as J
 use Rattle.setup.specs.declared.setup.Setup.{Setup}

@@ -4,15 +4,15 @@ ghost use Rattle.telling.specs.Left.{Leaves, repliedLeft, replyLeft};
 ghost use Rattle.telling.specs.declared.opening.Heard.the-variants.{Goes};
 ghost use Rattle.entry.specs.Going.{Going};
 use counting::stage_count;
+use opening::heard_at;
 use settling::settle;
+use shortcut::leave;
+use shortcut::next_of;
 use stages::stage::Stage;
 use steps::stage_step;
 use telling::opening::Heard;
-use telling::opening::heard_at;
 use telling::step::step;
 use wiping::short::Next;
-use wiping::short::leave;
-use wiping::short::next_of;
 
 // The call goes on from the stage that waited on this reply.
 fn go_on(

@@ -1,3 +1,2 @@
-// A session with a tag: a call is started, asks for its transfers one by one, takes the replies, and answers.
+// A session with a tag, by value: the mark, and what its open call has done so far.
 pub mod session;
-pub mod steps;

@@ -1,3 +1,1 @@
-pub mod Open
-pub mod Store
 pub mod Setup

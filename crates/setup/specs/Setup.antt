@@ -17,16 +17,16 @@ use Rattle.protocol.specs.Bus.{readByte}
 use Rattle.protocol.specs.Setup.{isThePart, writeSystem, isSetUp, reports, setUp, reporting, prepare}
 use Rattle.protocol.specs.declared.answer.TagError.the-variants.{NoAnswer, NotThePart}
 use Rattle.machine.specs.Ask.{first}
-use Rattle.setup.specs.Open.{openAsk, openStep, resumeOpen}
-use Rattle.setup.specs.Store.{storeAsk, storeStep, resumeStore}
+use Rattle.password.specs.Open.{openAsk, openStep, resumeOpen}
+use Rattle.storing.specs.Store.{storeAsk, storeStep, resumeStore}
 use Rattle.machine.specs.declared.ask.Ask.{Ask}
 use Rattle.machine.specs.declared.ask.Ask.the-variants.{Read}
-use Rattle.setup.specs.declared.open.Open.the-variants as O
-use Rattle.setup.specs.declared.open.Opened.{Opened}
-use Rattle.setup.specs.declared.open.Opened.the-variants as Od
-use Rattle.setup.specs.declared.store.Store.the-variants as S
-use Rattle.setup.specs.declared.store.Stored.{Stored}
-use Rattle.setup.specs.declared.store.Stored.the-variants as Sd
+use Rattle.password.specs.declared.Open.the-variants as O
+use Rattle.password.specs.declared.Opened.{Opened}
+use Rattle.password.specs.declared.Opened.the-variants as Od
+use Rattle.storing.specs.declared.Store.the-variants as S
+use Rattle.storing.specs.declared.Stored.{Stored}
+use Rattle.storing.specs.declared.Stored.the-variants as Sd
 use Rattle.setup.specs.declared.setup.Job.{Job}
 use Rattle.setup.specs.declared.setup.Job.the-variants as J
 use Rattle.setup.specs.declared.setup.Setup.{Setup}

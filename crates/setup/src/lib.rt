@@ -1,4 +1,2 @@
-// identify and prepare as machines: the password session, one byte into the system area, the whole setup.
-pub mod open;
+// identify and prepare as machines: who answers, and the whole setup.
 pub mod setup;
-pub mod store;

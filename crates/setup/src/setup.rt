@@ -1,15 +1,15 @@
 // identify and prepare: who answers, the setup that is done once, and GPO1.
 ghost use mathlib.Core.Path.{_≡_};
-ghost use Prim.Native.Nat.{_≤_, _<_};
-ghost use lib.ListN.{length, take};
-ghost use Rattle.protocol.specs.Setup.{isThePart};
+ghost use Prim.Native.Nat.{_≤_};
+ghost use lib.ListN.{length};
 ghost use Rattle.setup.specs.Setup.{jobPlace, jobValue, setupAsk, identified, configured, judged, setupOpened, nextJob, setupStored, setupStep};
-use crate::open::Open;
-use crate::open::Opened;
-use crate::store::Store;
-use crate::store::Stored;
+use identity::is_the_part;
 use machine::ask::Ask;
+use password::Open;
+use password::Opened;
 use protocol::answer::TagError;
+use storing::Store;
+use storing::Stored;
 
 // The bytes that a setup writes: I2C_CFG, RF_MNGT, GPO1.
 pub enum Job {
@@ -55,22 +55,6 @@ pub enum SetupStep {
     More(Setup),
     Done,
     Not(TagError),
-}
-
-fn wide(b: u8) -> usize
-    ensures { λ r. ⌜ (r ≡ b) × (r < 256) ⌝ }
-{
-    b as usize
-}
-
-// Whether twelve bytes from MEM_SIZE on are those of an ST25DV of 8 KB.
-pub fn is_the_part(id: &[u8]) -> bool
-    requires { ⌜ 12 ≤ length (now id) ⌝ }
-    ensures { λ r. ⌜ r ≡ isThePart (take 12 (now (id .entry))) ⌝ }
-{
-    let low = wide(id[0]);
-    let high = wide(id[1]);
-    (id[11] == 0xE0) & ((low + 256 * high + 1) * 4 == 8192)
 }
 
 pub fn identified(ack: bool, id: &[u8]) -> SetupStep

@@ -4,9 +4,9 @@ ghost use Rattle.stages.specs.Turns.{lentTo};
 ghost use Rattle.telling.specs.Left.{Leaves, startLeft};
 ghost use Rattle.calling.specs.Calling.{named};
 use calling::Call;
+use opening::mark_of;
+use opening::opened_at;
 use settling::started;
-use telling::opening::mark_of;
-use telling::opening::opened_at;
 
 // `lent` is what the call takes: the bytes of a write, and nothing for the others.
 pub fn start(state: &mut [u8], transfer: &mut [u8], reply: &mut [u8], lent: &[u8], c: Call) -> u64

@@ -1,4 +1,3 @@
-// A session's state in twenty lent bytes.
+// A session's state: its numbers in twenty lent bytes, and what such bytes are read as.
 pub mod bytes;
 pub mod decode;
-pub mod own;

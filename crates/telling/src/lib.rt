@@ -1,4 +1,3 @@
 // What a step of a session leaves in the lent buffers, and the one number that tells the host what to do.
-pub mod frame;
 pub mod opening;
 pub mod step;

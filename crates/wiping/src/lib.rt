@@ -1,4 +1,4 @@
-// A wipe's acknowledged steps by a short way. Nearly every step of a session is one of a wipe: its numbers are read, tested and
-// written as they stand, with no session made of them. Whatever else the state may be is left to the general way.
+// A wipe's acknowledged steps by a short way: what they lead to, and the laws by which that is what the general way leaves. Nearly every step
+// of a session is one of a wipe. No code: that is in `onward` and `shortcut`.
 pub mod after;
 pub mod short;

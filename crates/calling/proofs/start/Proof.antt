@@ -3,173 +3,134 @@ use Rattle.calling.proofs.start.Statement.{statement}
 use Rattle.calling.proofs.start.Tie as tie
 use Rattle.calling.proofs.start.Reads as reads
 use Rattle.calling.proofs.start.Lts as lts
-use Rattle.calling.proofs.begin.Reads as begin-reads
-use Rattle.calling.proofs.finish.Reads as finish-reads
-use Rattle.calling.proofs.go_live.Reads as go-live-reads
-use Rattle.calling.proofs.identify.Reads as identify-reads
-use Rattle.calling.proofs.prepare.Reads as prepare-reads
-use Rattle.calling.proofs.read_user.Reads as read-user-reads
-use Rattle.calling.proofs.read_whole.Reads as read-whole-reads
-use Rattle.calling.proofs.rf_off.Reads as rf-off-reads
-use Rattle.calling.proofs.rf_on.Reads as rf-on-reads
-use Rattle.calling.proofs.rf_wrote.Reads as rf-wrote-reads
-use Rattle.calling.proofs.scrub.Reads as scrub-reads
-use Rattle.calling.proofs.wait_ready.Reads as wait-ready-reads
-use Rattle.calling.proofs.write.Reads as write-reads
+use Rattle.bare.proofs.begin.Reads as begin-reads
+use Rattle.bare.proofs.finish.Reads as finish-reads
+use Rattle.bare.proofs.go_live.Reads as go-live-reads
+use Rattle.bare.proofs.identify.Reads as identify-reads
+use Rattle.bare.proofs.prepare.Reads as prepare-reads
+use Rattle.ranged.proofs.read_user.Reads as read-user-reads
+use Rattle.ranged.proofs.read_whole.Reads as read-whole-reads
+use Rattle.bare.proofs.rf_off.Reads as rf-off-reads
+use Rattle.bare.proofs.rf_on.Reads as rf-on-reads
+use Rattle.bare.proofs.rf_wrote.Reads as rf-wrote-reads
+use Rattle.bare.proofs.scrub.Reads as scrub-reads
+use Rattle.bare.proofs.wait_ready.Reads as wait-ready-reads
+use Rattle.ranged.proofs.write.Reads as write-reads
 
--- src/lib.rt:156:27
 enum-told : tie.Need-enum-told
 enum-told c = search needs
 
--- src/lib.rt:156:27
 identify-requires : tie.Need-identify-requires
 identify-requires c κs = search needs
 
--- src/lib.rt:157:26
 enum-told-2 : tie.Need-enum-told-2
 enum-told-2 c = search needs
 
--- src/lib.rt:157:26
 prepare-requires : tie.Need-prepare-requires
 prepare-requires c κs = search needs
 
--- src/lib.rt:158:28
 enum-told-3 : tie.Need-enum-told-3
 enum-told-3 c = search needs
 
--- src/lib.rt:158:28
 wait-ready-requires : tie.Need-wait-ready-requires
 wait-ready-requires c κs = search needs
 
--- src/lib.rt:159:24
 enum-known-c : tie.Need-enum-known-c
 enum-known-c c = search needs
 
--- src/lib.rt:159:34
 read-user-requires : tie.Need-read-user-requires
 read-user-requires c κs = search needs
 
--- src/lib.rt:160:21
 enum-known-c-2 : tie.Need-enum-known-c-2
 enum-known-c-2 c = search needs
 
--- src/lib.rt:160:28
 write-requires : tie.Need-write-requires
 write-requires c κs = search needs
 
--- src/lib.rt:161:24
 enum-told-4 : tie.Need-enum-told-4
 enum-told-4 c = search needs
 
--- src/lib.rt:161:24
 rf-off-requires : tie.Need-rf-off-requires
 rf-off-requires c κs = search needs
 
--- src/lib.rt:162:23
 enum-told-5 : tie.Need-enum-told-5
 enum-told-5 c = search needs
 
--- src/lib.rt:162:23
 rf-on-requires : tie.Need-rf-on-requires
 rf-on-requires c κs = search needs
 
--- src/lib.rt:163:26
 enum-told-6 : tie.Need-enum-told-6
 enum-told-6 c = search needs
 
--- src/lib.rt:163:26
 rf-wrote-requires : tie.Need-rf-wrote-requires
 rf-wrote-requires c κs = search needs
 
--- src/lib.rt:164:25
 enum-known-c-3 : tie.Need-enum-known-c-3
 enum-known-c-3 c = search needs
 
--- src/lib.rt:164:31
 read-whole-requires : tie.Need-read-whole-requires
 read-whole-requires c κs = search needs
 
--- src/lib.rt:165:24
 enum-told-7 : tie.Need-enum-told-7
 enum-told-7 c = search needs
 
--- src/lib.rt:165:24
 scrub-requires : tie.Need-scrub-requires
 scrub-requires c κs = search needs
 
--- src/lib.rt:166:24
 enum-told-8 : tie.Need-enum-told-8
 enum-told-8 c = search needs
 
--- src/lib.rt:166:24
 begin-requires : tie.Need-begin-requires
 begin-requires c κs = search needs
 
--- src/lib.rt:167:25
 enum-told-9 : tie.Need-enum-told-9
 enum-told-9 c = search needs
 
--- src/lib.rt:167:25
 go-live-requires : tie.Need-go-live-requires
 go-live-requires c κs = search needs
 
--- src/lib.rt:168:25
 enum-told-10 : tie.Need-enum-told-10
 enum-told-10 c = search needs
 
--- src/lib.rt:168:25
 finish-requires : tie.Need-finish-requires
 finish-requires c κs = search needs
 
--- src/lib.rt:151:1
 returns : tie.Need-returns
 returns c = rw (c .before .enum-told .given .1) (c .identify .ensures)
 
--- src/lib.rt:151:1
 returns-2 : tie.Need-returns-2
 returns-2 c = rw (c .before .enum-told2 .given .1) (c .prepare .ensures)
 
--- src/lib.rt:151:1
 returns-3 : tie.Need-returns-3
 returns-3 c = rw (c .before .enum-told3 .given .1) (c .wait-ready .ensures)
 
--- src/lib.rt:151:1
 returns-4 : tie.Need-returns-4
 returns-4 c = rw (c .before .before .c .given .1) (c .read-user .ensures)
 
--- src/lib.rt:151:1
 returns-5 : tie.Need-returns-5
 returns-5 c = rw (c .before .before .c2 .given .1) (c .write .ensures)
 
--- src/lib.rt:151:1
 returns-6 : tie.Need-returns-6
 returns-6 c = rw (c .before .enum-told4 .given .1) (c .rf-off .ensures)
 
--- src/lib.rt:151:1
 returns-7 : tie.Need-returns-7
 returns-7 c = rw (c .before .enum-told5 .given .1) (c .rf-on .ensures)
 
--- src/lib.rt:151:1
 returns-8 : tie.Need-returns-8
 returns-8 c = rw (c .before .enum-told6 .given .1) (c .rf-wrote .ensures)
 
--- src/lib.rt:151:1
 returns-9 : tie.Need-returns-9
 returns-9 c = rw (c .before .before .c3 .given .1) (c .read-whole .ensures)
 
--- src/lib.rt:151:1
 returns-10 : tie.Need-returns-10
 returns-10 c = rw (c .before .enum-told7 .given .1) (c .scrub .ensures)
 
--- src/lib.rt:151:1
 returns-11 : tie.Need-returns-11
 returns-11 c = rw (c .before .enum-told8 .given .1) (c .begin .ensures)
 
--- src/lib.rt:151:1
 returns-12 : tie.Need-returns-12
 returns-12 c = rw (c .before .enum-told9 .given .1) (c .go-live .ensures)
 
--- src/lib.rt:151:1
 returns-13 : tie.Need-returns-13
 returns-13 c = rw (c .before .enum-told10 .given .1) (c .finish .ensures)
 

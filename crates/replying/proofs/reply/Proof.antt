@@ -4,8 +4,8 @@ use Rattle.replying.proofs.reply.Tie as tie
 use Rattle.replying.proofs.reply.Reads as reads
 use Rattle.replying.proofs.reply.Lts as lts
 use Rattle.replying.proofs.by_stage.Reads as by-stage-reads
-use Rattle.wiping.proofs.short.leave.Reads as leave-reads
-use Rattle.wiping.proofs.short.next_of.Reads as next-of-reads
+use Rattle.shortcut.proofs.leave.Reads as leave-reads
+use Rattle.shortcut.proofs.next_of.Reads as next-of-reads
 use mathlib.Core.Path.{refl, sym, subst}
 use denote.Ref.{now}
 use Rattle.wiping.specs.Onward.{Short}

@@ -1,0 +1,29 @@
+use borrow.Author.Needs.{needs}
+use Rattle.password.proofs.Open.ask.Statement.{statement}
+use Rattle.password.proofs.Open.ask.Tie as tie
+
+enum-told : tie.Need-enum-told
+enum-told c = search needs
+
+enum-known-self : tie.Need-enum-known-self
+enum-known-self c = search needs
+
+ask-requires : tie.Need-ask-requires
+ask-requires c κs = search needs
+
+enum-told-2 : tie.Need-enum-told-2
+enum-told-2 c = search needs
+
+returns : tie.Need-returns
+returns c = rw (c .enum-told .given .1)
+
+returns-2 : tie.Need-returns-2
+returns-2 c = rw (c .before .before .self .given .1) (c .ask .ensures)
+
+returns-3 : tie.Need-returns-3
+returns-3 c = rw (c .enum-told2 .given .1)
+
+pub ask-spec : {M : Type 1} → statement M
+ask-spec =
+    tie.close
+    (tie.spec enum-told enum-known-self ask-requires enum-told-2 returns returns-2 returns-3)

@@ -1,0 +1,23 @@
+use borrow.Author.Needs.{needs}
+use Rattle.shortcut.proofs.moves.Statement.{statement}
+use Rattle.shortcut.proofs.moves.Tie as tie
+use Rattle.shortcut.proofs.moves.Reads as reads
+use Rattle.shortcut.proofs.moves.Lts as lts
+use Rattle.shortcut.proofs.by_chunk.Reads as by-chunk-reads
+use Rattle.shortcut.proofs.by_row.Reads as by-row-reads
+use denote.Ref.{now}
+
+by-row-requires : tie.Need-by-row-requires
+by-row-requires c κs = search needs
+
+returns : tie.Need-returns
+returns c = c .by-row .ensures (now (c .before .before .before .before .before .before .args .reply))
+
+by-chunk-requires : tie.Need-by-chunk-requires
+by-chunk-requires c κs = search needs
+
+returns-2 : tie.Need-returns-2
+returns-2 c = c .by-chunk .ensures
+
+pub moves-spec : {M : Type 1} → statement M
+moves-spec = tie.close (tie.spec by-row-requires returns by-chunk-requires returns-2)

@@ -1,2 +1,0 @@
-pub mod Decodes
-pub mod Owns
