@@ -1,13 +1,13 @@
 use borrow.Author.Needs.{needs}
-use Rattle.simulated.proofs.show.Statement.{statement}
-use Rattle.simulated.proofs.show.Tie as tie
+use Rattle.shows.proofs.show.Statement.{statement}
+use Rattle.shows.proofs.show.Tie as tie
 use mathlib.Core.Path.{_≡_, ap, _∙_}
 use mathlib.Core.List.{_∷_, []}
 use Prim.Native.Nat.{ℕ, _+_, _≤_}
 use native.Mathlib.Omega.{arith}
 use denote.Ref.{now}
 use lib.ListN.{length, length-take, length-drop}
-use Rattle.simulated.proofs.Answered.{filled-part, none-left}
+use Rattle.shows.proofs.Answered.{filled-part, none-left}
 use Rattle.part.proofs.General.{filled}
 
 enum-known-l : tie.Need-enum-known-l

@@ -1,6 +1,6 @@
 use borrow.Author.Needs.{needs}
-use Rattle.simulated.proofs.tear_row.Statement.{statement}
-use Rattle.simulated.proofs.tear_row.Tie as tie
+use Rattle.power.proofs.tear_row.Statement.{statement}
+use Rattle.power.proofs.tear_row.Tie as tie
 use mathlib.Core.Path.{_≡_, ap, sym, _∙_}
 use mathlib.Core.List.{List}
 use Prim.Native.Nat.{ℕ, _+_, _≤_}

@@ -1,6 +1,6 @@
 use borrow.Author.Needs.{needs}
-use Rattle.simulated.proofs.wait.Statement.{statement}
-use Rattle.simulated.proofs.wait.Tie as tie
+use Rattle.power.proofs.wait.Statement.{statement}
+use Rattle.power.proofs.wait.Tie as tie
 use mathlib.Core.Path.{_≡_, ap, _∙_}
 use Prim.Native.Nat.{ℕ, _-_}
 use native.Mathlib.Omega.{arith}

@@ -1,6 +1,6 @@
 use borrow.Author.Needs.{needs}
-use Rattle.simulated.proofs.tear_byte.Statement.{statement}
-use Rattle.simulated.proofs.tear_byte.Tie as tie
+use Rattle.power.proofs.tear_byte.Statement.{statement}
+use Rattle.power.proofs.tear_byte.Tie as tie
 
 enum-told : tie.Need-enum-told
 enum-told c = search needs

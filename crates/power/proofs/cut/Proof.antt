@@ -1,6 +1,6 @@
 use borrow.Author.Needs.{needs}
-use Rattle.simulated.proofs.cut.Statement.{statement}
-use Rattle.simulated.proofs.cut.Tie as tie
+use Rattle.power.proofs.cut.Statement.{statement}
+use Rattle.power.proofs.cut.Tie as tie
 use mathlib.Core.Path.{ap, _∙_}
 use borrow.Author.Tests.{eq-eqb, ne-eqb}
 use Rattle.part.specs.Power.{powered}

@@ -1,9 +1,9 @@
 use borrow.Author.Needs.{needs}
-use Rattle.simulated.proofs.read.Statement.{statement}
-use Rattle.simulated.proofs.read.Tie as tie
+use Rattle.shows.proofs.read.Statement.{statement}
+use Rattle.shows.proofs.read.Tie as tie
 use denote.Ref.{now}
 use borrow.Author.Tests.{not-true, not-false}
-use Rattle.simulated.proofs.Answered.{read-unsized, out-unsized, read-fills, read-taken, out-read, read-refused, out-kept}
+use Rattle.shows.proofs.Answered.{read-unsized, out-unsized, read-fills, read-taken, out-read, read-refused, out-kept}
 
 whole-requires : tie.Need-whole-requires
 whole-requires c κs = search needs
