@@ -22,7 +22,8 @@ use Rattle.records.specs.Parse.{headLen, payloadLen, idLen, wholeOf, parseOf}
 use Rattle.walk.specs.Step.{stepOf}
 use Rattle.walk.specs.Walked.{ended, chunked, listing, walkedFrom, walked}
 use Rattle.judging.specs.Judge.{verdict, checks}
-use Rattle.image.specs.Builds.{textVerdict, emptyVerdict}
+use Rattle.image.specs.Builds.{textVerdict}
+use Rattle.empty.specs.Empty.{emptyVerdict}
 use lib.ListN.{replicate}
 use Rattle.protocol.specs.Mark.{wipeEnd, none}
 use Rattle.protocol.specs.Write.{writeUser}

@@ -1,6 +1,6 @@
 use borrow.Author.Needs.{needs}
-use Rattle.begins.proofs.begin_with.Statement.{statement}
-use Rattle.begins.proofs.begin_with.Tie as tie
+use Rattle.opens.proofs.begin_with.Statement.{statement}
+use Rattle.opens.proofs.begin_with.Tie as tie
 use mathlib.Core.Path.{_≡_, ap, sym, _∙_}
 use mathlib.Core.List.{_++_}
 use Prim.Native.Nat.{ℕ, _+_}

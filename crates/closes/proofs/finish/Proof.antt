@@ -1,6 +1,6 @@
 use borrow.Author.Needs.{needs}
-use Rattle.begins.proofs.finish.Statement.{statement}
-use Rattle.begins.proofs.finish.Tie as tie
+use Rattle.closes.proofs.finish.Statement.{statement}
+use Rattle.closes.proofs.finish.Tie as tie
 use borrow.Author.Tests.{le-leb, lt-leb}
 use mathlib.Core.Path.{ap}
 use Prim.Native.Nat.{ℕ}
@@ -8,7 +8,7 @@ use lib.ListN.{length}
 use denote.Ref.{now}
 use Rattle.layout.specs.declared.refusal.Refusal.the-variants.{TooLong}
 use Rattle.judging.specs.declared.Built.the-variants.{Refused}
-use Rattle.begins.specs.Begins.{finishAnswer, finishAfter}
+use Rattle.closes.specs.Closes.{finishAnswer, finishAfter}
 
 sat-add-requires : tie.Need-sat-add-requires
 sat-add-requires c κs = search needs

@@ -1,6 +1,6 @@
 use borrow.Author.Needs.{needs}
-use Rattle.image.proofs.mime_image.Statement.{statement}
-use Rattle.image.proofs.mime_image.Tie as tie
+use Rattle.mime.proofs.mime_image.Statement.{statement}
+use Rattle.mime.proofs.mime_image.Tie as tie
 use mathlib.Core.Path.{ap, sym, _∙_}
 use Prim.Native.Nat.{ℕ}
 use native.Mathlib.Nat.{zero-add}

@@ -1,6 +1,6 @@
 use borrow.Author.Needs.{needs}
-use Rattle.begins.proofs.open.Statement.{statement}
-use Rattle.begins.proofs.open.Tie as tie
+use Rattle.opens.proofs.open.Statement.{statement}
+use Rattle.opens.proofs.open.Tie as tie
 use mathlib.Core.List.{append-nil}
 use native.Mathlib.Nat.{add-zero}
 

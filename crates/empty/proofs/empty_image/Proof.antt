@@ -1,6 +1,6 @@
 use borrow.Author.Needs.{needs}
-use Rattle.image.proofs.empty_image.Statement.{statement}
-use Rattle.image.proofs.empty_image.Tie as tie
+use Rattle.empty.proofs.empty_image.Statement.{statement}
+use Rattle.empty.proofs.empty_image.Tie as tie
 use borrow.Author.Tests.{lt-ltb, le-ltb}
 use mathlib.Core.Path.{_≡_}
 use lib.ListN.{length}
@@ -13,7 +13,7 @@ use Rattle.layout.specs.Image.{imageOf, emptyImage}
 use Rattle.layout.proofs.Images.{container-length}
 use Rattle.layout.specs.declared.refusal.Refusal.the-variants.{AreaTooBig, TooLong}
 use Rattle.layout.specs.declared.refusal.Verdict.the-variants.{Fits, Not}
-use Rattle.image.specs.Builds.{emptyVerdict}
+use Rattle.empty.specs.Empty.{emptyVerdict}
 use Rattle.judging.proofs.Judged.{finished, refused}
 use native.Mathlib.Omega.{arith}
 
