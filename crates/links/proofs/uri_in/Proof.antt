@@ -1,6 +1,6 @@
 use borrow.Author.Needs.{needs}
-use Rattle.contents.proofs.uri_in.Statement.{statement}
-use Rattle.contents.proofs.uri_in.Tie as tie
+use Rattle.links.proofs.uri_in.Statement.{statement}
+use Rattle.links.proofs.uri_in.Tie as tie
 use mathlib.Core.Path.{ap, _∙_, sym}
 use Prim.Native.Nat.{_+_, _-_}
 use lib.ListN.{length, getD}
@@ -8,7 +8,7 @@ use denote.Ref.{now}
 use Rattle.slices.proofs.Splice.{part-rest}
 use Rattle.utf8.specs.Utf8.{utf8}
 use Rattle.uri.specs.declared.Found.{Found}
-use Rattle.contents.proofs.Cases.{uri-empty, uri-unknown, uri-read, link}
+use Rattle.links.proofs.Cases.{uri-empty, uri-unknown, uri-read, link}
 use native.Mathlib.Omega.{arith}
 
 nothing-requires : tie.Need-nothing-requires

@@ -1,13 +1,15 @@
 use borrow.Author.Needs.{needs}
-use Rattle.contents.proofs.uri_at.Statement.{statement}
-use Rattle.contents.proofs.uri_at.Tie as tie
+use Rattle.links.proofs.uri_at.Statement.{statement}
+use Rattle.links.proofs.uri_at.Tie as tie
 use mathlib.Core.Path.{ap, sym, _∙_}
 use mathlib.Core.List.{List}
 use Prim.Native.Nat.{ℕ}
 use lib.ListN.{length}
 use denote.Ref.{now}
-use Rattle.contents.specs.Contents.{uriIn, payloadAt}
-use Rattle.contents.proofs.Cases.{uri-empty, payload-there}
+use Rattle.contents.specs.Contents.{payloadAt}
+use Rattle.links.specs.Links.{uriIn}
+use Rattle.contents.proofs.Cases.{payload-there}
+use Rattle.links.proofs.Cases.{uri-empty}
 use native.Mathlib.Omega.{arith}
 
 payload-requires : tie.Need-payload-requires

@@ -1,8 +1,8 @@
-use Rattle.contents.proofs.nothing.Statement.{statement}
-use Rattle.contents.proofs.nothing.Tie as tie
+use Rattle.links.proofs.nothing.Statement.{statement}
+use Rattle.links.proofs.nothing.Tie as tie
 use mathlib.Core.Path.{refl}
 use Rattle.uri.specs.Prefixes.{entry}
-use Rattle.contents.specs.Contents.{noLink}
+use Rattle.links.specs.Links.{noLink}
 
 returns : tie.Need-returns
 unfolding noLink entry

@@ -1,8 +1,8 @@
 use borrow.Author.Needs.{needs}
-use Rattle.contents.proofs.uri.Statement.{statement}
-use Rattle.contents.proofs.uri.Tie as tie
+use Rattle.links.proofs.uri.Statement.{statement}
+use Rattle.links.proofs.uri.Tie as tie
 use mathlib.Core.Path.{sym, _∙_}
-use Rattle.contents.specs.Contents.{uriOf}
+use Rattle.links.specs.Links.{uriOf}
 
 is-requires : tie.Need-is-requires
 is-requires c κs = search needs
