@@ -1,11 +1,11 @@
 use borrow.Author.Needs.{needs}
-use Rattle.blocks.proofs.body.Statement.{statement}
-use Rattle.blocks.proofs.body.Tie as tie
+use Rattle.tlv.proofs.body.Statement.{statement}
+use Rattle.tlv.proofs.body.Tie as tie
 use borrow.Author.Tests.{eq-eqb, ne-eqb, lt-ltb, le-ltb}
 use Prim.Native.Nat.{_≤_, _<_, _+_}
 use lib.ListN.{length}
 use denote.Ref.{now}
-use Rattle.blocks.specs.Read.{bodyOf}
+use Rattle.tlv.specs.Blocks.{bodyOf}
 use native.Mathlib.Omega.{arith}
 
 sub-if1 : tie.Need-sub-if1

@@ -1,13 +1,13 @@
 use borrow.Author.Needs.{needs}
-use Rattle.blocks.proofs.block_at.Statement.{statement}
-use Rattle.blocks.proofs.block_at.Tie as tie
+use Rattle.tlv.proofs.block_at.Statement.{statement}
+use Rattle.tlv.proofs.block_at.Tie as tie
 use mathlib.Core.Path.{_≡_, ap, sym, _∙_}
 use borrow.Author.Tests.{eq-eqb, ne-eqb}
 use lib.ListN.{length, drop, length-drop}
 use denote.Ref.{now}
 use Rattle.slices.proofs.Splice.{part-rest}
-use Rattle.blocks.specs.Read.{tlvLength, blockOf}
-use Rattle.blocks.proofs.Blocks.{tlv-there}
+use Rattle.tlv.specs.Blocks.{tlvLength, blockOf}
+use Rattle.tlv.proofs.Blocks.{tlv-there}
 use native.Mathlib.Omega.{arith}
 
 -- the length that was read

@@ -1,8 +1,8 @@
 use borrow.Author.Needs.{needs}
-use Rattle.blocks.proofs.tlv_len.Statement.{statement}
-use Rattle.blocks.proofs.tlv_len.Tie as tie
+use Rattle.tlv.proofs.tlv_len.Statement.{statement}
+use Rattle.tlv.proofs.tlv_len.Tie as tie
 use borrow.Author.Tests.{eq-eqb, ne-eqb, lt-ltb, le-ltb}
-use Rattle.blocks.specs.Read.{tlvLength}
+use Rattle.tlv.specs.Blocks.{tlvLength}
 
 returns : tie.Need-returns
 unfolding tlvLength
