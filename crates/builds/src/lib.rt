@@ -45,7 +45,7 @@ fn built(line: &[u8], out: &mut [u8], at: usize, b: Built, lent: &[u8]) -> usize
 
 fn begin_mime(line: &[u8], lent: &mut [u8], kind: &mut [u8]) -> Built {
     let k = given(fourth(line), kind);
-    begins::begin_mime(
+    opens::begin_mime(
         lent,
         number(third(line)),
         front(kind, k),
@@ -64,7 +64,7 @@ fn open(line: &[u8], lent: &mut [u8], kind: &mut [u8], call: usize) -> Built {
         1 => begin(line, lent),
         2 => begins::begin_text(lent, number(third(line)), number(fourth(line))),
         3 => begin_mime(line, lent, kind),
-        _ => begins::finish(lent, number(third(line))),
+        _ => closes::finish(lent, number(third(line))),
     }
 }
 
@@ -82,7 +82,7 @@ fn text_image(line: &[u8], lent: &mut [u8], text: &mut [u8]) -> Built {
 fn mime_image(line: &[u8], lent: &mut [u8], kind: &mut [u8], text: &mut [u8]) -> Built {
     let k = given(fourth(line), kind);
     let n = given(fifth(line), text);
-    image::mime_image(lent, number(third(line)), front(kind, k), front(text, n))
+    mime::mime_image(lent, number(third(line)), front(kind, k), front(text, n))
 }
 
 // The calls that build a whole image.
@@ -91,7 +91,7 @@ fn whole(line: &[u8], lent: &mut [u8], kind: &mut [u8], text: &mut [u8], call: u
         5 => uri_image(line, lent, text),
         6 => text_image(line, lent, text),
         7 => mime_image(line, lent, kind, text),
-        _ => image::empty_image(lent, number(third(line))),
+        _ => empty::empty_image(lent, number(third(line))),
     }
 }
 

@@ -18,7 +18,7 @@ fn text(out: &mut [u8], at: usize, image: &[u8], r: Record) -> usize {
 }
 
 fn uri(out: &mut [u8], at: usize, image: &[u8], r: Record) -> usize {
-    let link = contents::uri(image, r);
+    let link = links::uri(image, r);
     let rest = link.rest;
     let n = link.prefix.len;
     let bytes = link.prefix.bytes;

@@ -1,4 +1,4 @@
--- Text and URI of a payload, case by case, as they are read.
+-- The text of a payload, case by case, as it is read.
 use mathlib.Core.Path.{_≡_, refl, ap, sym, _∙_}
 use mathlib.Core.Bool.{Bool}
 use mathlib.Core.List.{List, [], _∷_}
@@ -12,14 +12,11 @@ use lib.Seq.{length-take-le}
 use Rattle.slices.specs.Pick.{pick}
 use Rattle.slices.proofs.Cases.{lt-or-ge}
 use Rattle.utf8.specs.Utf8.{utf8}
-use Rattle.uri.specs.Prefixes.{prefixAnswer}
-use Rattle.uri.specs.declared.Prefix.{Prefix}
 use Rattle.records.specs.declared.Record.{Record}
 use Rattle.pieces.specs.Parts.{partOf, payloadOf}
 use Rattle.pieces.proofs.Parts.{part-inside, part-outside}
 use Rattle.contents.specs.declared.Part.the-variants.{At, Nothing}
-use Rattle.contents.specs.declared.Link.{Link}
-use Rattle.contents.specs.Contents.{payloadAt, textIn, noLink, uriIn}
+use Rattle.contents.specs.Contents.{payloadAt, textIn}
 
 -- a part with bytes in it is inside the image
 pub part-there : (s : List ℕ) (at len : ℕ) → (length (partOf s at len) ≡ 0 → ⊥) → at + len ≤ length s
@@ -33,10 +30,6 @@ payload-there s r {p} e n =
     let h : payloadAt r + r .«payload_len» ≤ length s = part-there s (payloadAt r) (r .«payload_len») (λ z. n (ap length e ∙ z)) in
     let l : length p ≡ r .«payload_len» = ap length e ∙ ap length (part-inside s (payloadAt r) (r .«payload_len») h) ∙ length-take-le (r .«payload_len») (drop (payloadAt r) s) (omega (arith, length-drop (payloadAt r) s)) in
     omega arith
-
--- a URI that was found
-abbrev pub link : ℕ → ℕ → ℕ → Prefix → Link
-link at len c p = record { rest = At at len; code = c; prefix = p }
 
 pub text-empty : (p : List ℕ) (at : ℕ) → length p ≡ 0 → Nothing ≡ textIn p at
 unfolding textIn
@@ -63,19 +56,3 @@ text-read (b ∷ s) at {u} h w l e =
     let d : utf8 (drop (b % 64) s) ≡ u = ap (λ (n : ℕ). utf8 (drop n (b ∷ s))) (sym (add-one (b % 64))) ∙ e in
     let n : suc (length s) - (b % 64 + 1) ≡ length s - b % 64 = omega arith in
     simp (lt-ltb b 128 w, le-leb (b % 64) (length s) k, d, n)
-
-pub uri-empty : (p : List ℕ) (at : ℕ) → length p ≡ 0 → noLink ≡ uriIn p at
-unfolding uriIn
-uri-empty [] at h = refl
-uri-empty (b ∷ s) at h = absurd (omega arith)
-
-pub uri-unknown : (p : List ℕ) (at : ℕ) → 0 < length p → 35 < getD p 0 0 → noLink ≡ uriIn p at
-unfolding uriIn
-uri-unknown [] at h w = absurd (omega arith)
-uri-unknown (b ∷ s) at h w = simp (lt-leb b 35 w)
-
-pub uri-read : (p : List ℕ) (at : ℕ) {u : Bool} → 0 < length p → getD p 0 0 ≤ 35 → utf8 (drop 1 p) ≡ u
-    → pick u (record { rest = At (at + 1) (length p - 1); code = getD p 0 0; prefix = prefixAnswer (getD p 0 0) .prefix }) noLink ≡ uriIn p at
-unfolding uriIn
-uri-read [] at h w e = absurd (omega arith)
-uri-read (b ∷ s) at h w e = let n : suc (length s) - 1 ≡ length s = omega arith in simp (le-leb b 35 w, e, n)

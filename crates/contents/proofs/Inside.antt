@@ -1,8 +1,10 @@
--- Where a text and a URI's rest stand: inside the image, in the record's payload, and what stands there is UTF-8.
+-- Where a text stands: inside the image, in the record's payload, and what stands there is UTF-8.
 --
 --   Rest q at p n        == the n bytes at the place p are the rest of the payload q, which stands at `at`, after its first bytes
 --   Stands s q p n       == the n bytes at p lie in the image s, are the end of the payload q, and are UTF-8
---   text-stands, uri-stands == so do the text of a record and the rest of its URI
+--   never                == nothing is no part
+--   stands               == the rest of a record's payload, where it is UTF-8, stands so
+--   text-stands          == so does the text of a record
 use mathlib.Core.Path.{_≡_, refl, ap, sym, _∙_}
 use mathlib.Core.Bool.{true}
 use mathlib.Core.List.{List, [], _∷_, _++_}
@@ -20,8 +22,7 @@ use Rattle.pieces.specs.Parts.{isOf, partOf, payloadOf}
 use Rattle.pieces.proofs.Parts.{part-inside}
 use Rattle.contents.specs.declared.Part.{Part}
 use Rattle.contents.specs.declared.Part.the-variants.{At, Nothing}
-use Rattle.contents.specs.declared.Link.{Link}
-use Rattle.contents.specs.Contents.{payloadAt, textIn, textOf, noLink, uriIn, uriOf}
+use Rattle.contents.specs.Contents.{payloadAt, textIn, textOf}
 use Rattle.contents.proofs.Cases.{part-there}
 
 pub record Rest (q : List ℕ) (at p n : ℕ) : Type 0 where
@@ -37,7 +38,7 @@ pub record Stands (s q : List ℕ) (p n : ℕ) : Type 0 where
   pub bytes : take n (drop p s) ≡ drop before q
   pub text : utf8 (take n (drop p s)) ≡ true
 
-never : {p n : ℕ} → Nothing ≡ At p n → ⊥
+pub never : {p n : ℕ} → Nothing ≡ At p n → ⊥
 never e = let z : _≡_ {A = ℕ} 0 1 = cc in omega arith
 
 text-rest : (q : List ℕ) (at : ℕ) {p n : ℕ} → textIn q at ≡ At p n → Rest q at p n
@@ -61,22 +62,11 @@ text-rest (status ∷ rest) at {p} {n} e =
     (λ _ e. absurd (never e))
     e
 
-uri-rest : (q : List ℕ) (at : ℕ) {p n : ℕ} → uriIn q at .rest ≡ At p n → Rest q at p n
-unfolding uriIn noLink
-uri-rest [] at e = absurd (never e)
-uri-rest (code ∷ rest) at {p} {n} e =
-    pick-cases (λ (x : Link). x .rest ≡ At p n → Rest (code ∷ rest) at p n) (leb code 35)
-    (λ _. pick-cases (λ (x : Link). x .rest ≡ At p n → Rest (code ∷ rest) at p n) (utf8 rest)
-    (λ u e. let m : length rest ≡ n = cc in record { before = 1; some = omega arith; place = cc; len = omega arith; text = u })
-    (λ _ e. absurd (never e)))
-    (λ _ e. absurd (never e))
-    e
-
 -- bytes from k on, of those that are taken
 drop-of-take : (k n : ℕ) (l : List ℕ) → k + n ≤ length l → drop k (take (k + n) l) ≡ take n (drop k l)
 drop-of-take k n l h = ap (drop k) (take-add k n l) ∙ drop-at (take k l) (take n (drop k l)) k (length-take-le k l (omega arith))
 
-stands : (s : List ℕ) (r : Record) {p n : ℕ} → Rest (payloadOf s r) (payloadAt r) p n → Stands s (payloadOf s r) p n
+pub stands : (s : List ℕ) (r : Record) {p n : ℕ} → Rest (payloadOf s r) (payloadAt r) p n → Stands s (payloadOf s r) p n
 stands s r {p} {n} t =
     let at : ℕ = payloadAt r in
     let len : ℕ = r .«payload_len» in
@@ -100,13 +90,5 @@ unfolding textOf
 text-stands s r {p} {n} e =
     pick-cases (λ (x : Part). x ≡ At p n → Stands s (payloadOf s r) p n) (isOf s r 0x54)
     (λ _ e. stands s r (text-rest (payloadOf s r) (payloadAt r) e))
-    (λ _ e. absurd (never e))
-    e
-
-pub uri-stands : (s : List ℕ) (r : Record) {p n : ℕ} → uriOf s r .rest ≡ At p n → Stands s (payloadOf s r) p n
-unfolding uriOf noLink
-uri-stands s r {p} {n} e =
-    pick-cases (λ (x : Link). x .rest ≡ At p n → Stands s (payloadOf s r) p n) (isOf s r 0x55)
-    (λ _ e. stands s r (uri-rest (payloadOf s r) (payloadAt r) e))
     (λ _ e. absurd (never e))
     e

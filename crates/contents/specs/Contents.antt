@@ -1,25 +1,19 @@
--- What a record says. Document 01, 'Bytes from a phone' (Text, URI); NFC Forum Text RTD 1.0 and URI RTD 1.0, section 3.2 of each.
+-- What a text record says. Document 01, 'Bytes from a phone' (Text); NFC Forum Text RTD 1.0, section 3.2.
 --
 --   payloadAt r     == the place of a record's payload
 --   textIn p at     == the text in the payload p, which stands at `at`: the first byte's top bit is clear (UTF-8), its low six bits,
 --                      the language code's length, are at most the bytes that follow, and the remainder is UTF-8
 --   textOf s r      == the text of the record r in the image s: format 1, type exactly "T"
---   noLink          == no URI: nothing, code 0, an empty prefix
---   uriIn p at      == the URI in the payload p: the first byte is a code of the table, 0 to 35, and the remainder is UTF-8
---   uriOf s r       == the URI of the record r in the image s: format 1, type exactly "U"
-use mathlib.Core.Bool.{Bool, _&&_}
 use mathlib.Core.List.{List, [], _∷_}
-use Prim.Native.Nat.{ℕ, suc, _+_, _-_, _%_}
+use Prim.Native.Nat.{ℕ, _+_, _-_, _%_}
 use lib.ListN.{length, drop}
 use lib.Dec.{leb, ltb}
 use Rattle.slices.specs.Pick.{pick}
 use Rattle.utf8.specs.Utf8.{utf8}
-use Rattle.uri.specs.Prefixes.{entry, prefixAnswer}
 use Rattle.records.specs.declared.Record.{Record}
 use Rattle.pieces.specs.Parts.{payloadOf, isOf}
 use Rattle.contents.specs.declared.Part.{Part}
 use Rattle.contents.specs.declared.Part.the-variants.{At, Nothing}
-use Rattle.contents.specs.declared.Link.{Link}
 
 abbrev pub payloadAt : Record → ℕ
 payloadAt r = r .kind + r .«kind_len» + r .«id_len»
@@ -35,16 +29,3 @@ textIn (status ∷ rest) at =
 
 unfoldable pub textOf : List ℕ → Record → Part
 textOf s r = pick (isOf s r 0x54) (textIn (payloadOf s r) (payloadAt r)) Nothing
-
-unfoldable pub noLink : Link
-noLink = record { rest = Nothing; code = 0; prefix = entry [] }
-
-unfoldable pub uriIn : List ℕ → ℕ → Link
-uriIn [] at = noLink
-uriIn (code ∷ rest) at =
-    pick (leb code 35)
-    (pick (utf8 rest) (record { rest = At (at + 1) (length rest); code = code; prefix = prefixAnswer code .prefix }) noLink)
-    noLink
-
-unfoldable pub uriOf : List ℕ → Record → Link
-uriOf s r = pick (isOf s r 0x55) (uriIn (payloadOf s r) (payloadAt r)) noLink

@@ -16,11 +16,12 @@ use lib.Dec.{eqb}
 use Rattle.slices.specs.Pick.{pick}
 use Rattle.slices.specs.Bytes.{be}
 use Rattle.slices.specs.Walk.{onNext}
-use Rattle.blocks.specs.declared.Length.the-variants.{Of}
-use Rattle.blocks.specs.declared.Block.{Block}
-use Rattle.blocks.specs.declared.Block.the-variants as block
+use Rattle.tlv.specs.declared.Length.the-variants.{Of}
+use Rattle.tlv.specs.declared.Block.{Block}
+use Rattle.tlv.specs.declared.Block.the-variants as block
 use Rattle.blocks.specs.declared.Message.{Message}
-use Rattle.blocks.specs.Read.{tlvLength, bodyOf, onLength, blockOf, onBlock, messageFrom, containerLen, readOf}
+use Rattle.tlv.specs.Blocks.{tlvLength, bodyOf, onLength, blockOf}
+use Rattle.blocks.specs.Read.{onBlock, messageFrom, containerLen, readOf}
 use Rattle.grammar.specs.Blocks.{Version1, Head, large, long, small, Size, one, three, Passed, null, other, Passes, none, first, Cut, no-length, escape, half, beyond, Stops, message, no-more, terminator, cut}
 use Rattle.blocks.proofs.Blocks.{message-step}
 

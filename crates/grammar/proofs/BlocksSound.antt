@@ -16,13 +16,14 @@ use lib.Dec.{eqb, ltb}
 use Rattle.slices.specs.Bytes.{be}
 use Rattle.slices.specs.Walk.{onNext}
 use Rattle.slices.proofs.Cases.{pick-cases}
-use Rattle.blocks.specs.declared.Length.{Length}
-use Rattle.blocks.specs.declared.Length.the-variants.{Of, Missing}
-use Rattle.blocks.specs.declared.Block.{Block}
-use Rattle.blocks.specs.declared.Block.the-variants as block
+use Rattle.tlv.specs.declared.Length.{Length}
+use Rattle.tlv.specs.declared.Length.the-variants.{Of, Missing}
+use Rattle.tlv.specs.declared.Block.{Block}
+use Rattle.tlv.specs.declared.Block.the-variants as block
 use Rattle.blocks.specs.declared.Message.{Message}
 use Rattle.blocks.specs.declared.Message.the-variants.{At, NoContainer, NoMessage, Truncated}
-use Rattle.blocks.specs.Read.{tlvLength, bodyOf, onLength, blockOf, onBlock, messageFrom, containerLen, readOf}
+use Rattle.tlv.specs.Blocks.{tlvLength, bodyOf, onLength, blockOf}
+use Rattle.blocks.specs.Read.{onBlock, messageFrom, containerLen, readOf}
 use Rattle.grammar.specs.Blocks.{Bytes, Version1, Head, large, long, small, Size, one, three, Passed, null, other, Passes, none, first, Cut, no-length, escape, half, beyond, Stops, message, no-more, terminator, cut}
 use Rattle.blocks.proofs.Blocks.{message-step}
 

@@ -6,7 +6,8 @@ use mathlib.Core.Path.{_≡_, refl}
 use mathlib.Core.List.{List, [], _∷_, _++_}
 use Prim.Native.Nat.{ℕ}
 use Rattle.slices.specs.Walk.{walk, walkF}
-use Rattle.blocks.specs.Read.{tlvLength, bodyOf, blockOf, messageFrom, containerLen, readOf}
+use Rattle.tlv.specs.Blocks.{tlvLength, bodyOf, blockOf}
+use Rattle.blocks.specs.Read.{messageFrom, containerLen, readOf}
 use Rattle.records.specs.Parse.{headLen, payloadLen, idLen, wholeOf, parseOf}
 use Rattle.pieces.specs.Parts.{partOf}
 use Rattle.walk.specs.Step.{stepOf}

@@ -46,7 +46,7 @@ fn cut(b: Bench, pace: u64, memory: &mut Memory) -> Bench {
     let mut torn = [0u8; 16];
     let x = chance::fill(&mut torn, b.chance);
     let was = b.registers;
-    let r = simulated::cut(was, memory, &torn, chance::rarely(x, 2));
+    let r = power::cut(was, memory, &torn, chance::rarely(x, 2));
     Bench {
         registers: r,
         step: 0,

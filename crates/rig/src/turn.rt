@@ -31,7 +31,7 @@ pub fn visit(b: Bench, memory: &mut Memory) -> Bench {
     let n = chance::below(y, 65) as usize;
     visited(
         b,
-        simulated::phone(r, memory, at, front(&bytes, n)),
+        power::phone(r, memory, at, front(&bytes, n)),
         chance::next(y),
     )
 }
@@ -55,7 +55,7 @@ fn read(b: Bench, identity: &Identity, memory: &Memory, head: &[u8], out: &mut [
             registers: r,
         };
     }
-    simulated::read(r, identity, memory, address(b.step), head, &mut out[..n])
+    shows::read(r, identity, memory, address(b.step), head, &mut out[..n])
 }
 
 // The step on the part.
@@ -81,7 +81,7 @@ fn carried(
         3 => read(b, identity, memory, head, out),
         _ => Answer {
             ack: true,
-            registers: simulated::wait(r, delay(b.step) as usize),
+            registers: power::wait(r, delay(b.step) as usize),
         },
     }
 }

@@ -17,12 +17,14 @@ use Rattle.layout.specs.Image.{imageOf, emptyImage, textImage}
 use Rattle.layout.specs.declared.refusal.Verdict.the-variants.{Fits, Not}
 use Rattle.layout.specs.declared.refusal.Refusal.the-variants.{TooLong, RecordTooLong}
 use Rattle.blocks.specs.declared.Message.the-variants.{At, NoContainer, NoMessage, Truncated}
-use Rattle.blocks.specs.Read.{tlvLength, bodyOf, blockOf, messageFrom, containerLen, readOf}
+use Rattle.tlv.specs.Blocks.{tlvLength, bodyOf, blockOf}
+use Rattle.blocks.specs.Read.{messageFrom, containerLen, readOf}
 use Rattle.records.specs.Parse.{headLen, payloadLen, idLen, wholeOf, parseOf}
 use Rattle.walk.specs.Step.{stepOf}
 use Rattle.walk.specs.Walked.{ended, chunked, listing, walkedFrom, walked}
 use Rattle.judging.specs.Judge.{verdict, checks}
-use Rattle.image.specs.Builds.{textVerdict, emptyVerdict}
+use Rattle.image.specs.Builds.{textVerdict}
+use Rattle.empty.specs.Empty.{emptyVerdict}
 use lib.ListN.{replicate}
 use Rattle.protocol.specs.Mark.{wipeEnd, none}
 use Rattle.protocol.specs.Write.{writeUser}

@@ -54,8 +54,9 @@ use Rattle.walk.specs.Walked.{Walked, ended, before, listing, walked, onStep}
 use Rattle.walk.proofs.Walks.{walked-step}
 use Rattle.contents.specs.declared.Part.{Part}
 use Rattle.contents.specs.declared.Part.the-variants as part
-use Rattle.contents.specs.declared.Link.{Link}
-use Rattle.contents.specs.Contents.{payloadAt, textIn, textOf, uriIn, uriOf}
+use Rattle.links.specs.declared.Link.{Link}
+use Rattle.contents.specs.Contents.{payloadAt, textIn, textOf}
+use Rattle.links.specs.Links.{uriIn, uriOf}
 use Rattle.contents.proofs.Cases.{part-there}
 use Rattle.roundtrip.specs.Differ.{rests}
 

@@ -5,7 +5,7 @@
 use mathlib.Core.List.{List, [], _∷_}
 use Prim.Native.Nat.{ℕ}
 use lib.ListN.{replicate}
-use Rattle.contents.specs.declared.Link.{Link}
+use Rattle.links.specs.declared.Link.{Link}
 use Rattle.contents.specs.declared.Part.{Part}
 use Rattle.contents.specs.declared.Part.the-variants.{At, Nothing}
 use Rattle.places.specs.Places.{partNumber}

@@ -1,12 +1,13 @@
 // What a record says: a text, a URI, and a URI's prefix.
 ghost use mathlib.Core.Path.{_≡_};
 ghost use Rattle.uri.specs.Prefixes.{prefixAnswer};
-ghost use Rattle.contents.specs.Contents.{textOf, uriOf};
+ghost use Rattle.contents.specs.Contents.{textOf};
+ghost use Rattle.links.specs.Links.{uriOf};
 ghost use Rattle.plain.specs.Reading.{recordOf, yes};
 ghost use Rattle.places.specs.Places.{partNumber, partNumbers};
 ghost use Rattle.says.specs.Says.{linkNumber, linkNumbers};
-use contents::Link;
 use contents::Part;
+use links::Link;
 use places::told;
 use plain::record_of;
 
@@ -39,7 +40,7 @@ fn link(l: Link, values: &mut [usize; 3]) -> u32
 pub fn uri(image: &[u8], places: &[usize; 6], values: &mut [usize; 3]) -> u32
     ensures { λ r. ⌜ (r ≡ linkNumber (uriOf (now (image .entry)) (recordOf (now (places .entry))))) × (now (values .exit) ≡ linkNumbers (uriOf (now (image .entry)) (recordOf (now (places .entry))))) ⌝ }
 {
-    let l = contents::uri(image, record_of(places));
+    let l = links::uri(image, record_of(places));
     link(l, values)
 }
 

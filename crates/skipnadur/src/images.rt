@@ -9,8 +9,12 @@ ghost use Rattle.layout.specs.Numbers.{verdictNumber};
 ghost use Rattle.layout.specs.Image.{emptyImage, textImage, uriImage, mimeImage};
 ghost use Rattle.scan.specs.Zeros.{highWater};
 ghost use Rattle.judging.specs.Judge.{verdict, checks};
-ghost use Rattle.begins.specs.Begins.{openBytes, beginBytes, beginTextBytes, finishAnswer, finishAfter};
-ghost use Rattle.image.specs.Builds.{mimeVerdict, textVerdict, uriVerdict, emptyVerdict};
+ghost use Rattle.opens.specs.Opens.{openBytes};
+ghost use Rattle.begins.specs.Begins.{beginBytes, beginTextBytes};
+ghost use Rattle.closes.specs.Closes.{finishAnswer, finishAfter};
+ghost use Rattle.image.specs.Builds.{textVerdict, uriVerdict};
+ghost use Rattle.mime.specs.Mime.{mimeVerdict};
+ghost use Rattle.empty.specs.Empty.{emptyVerdict};
 ghost use Rattle.tells.specs.Builds.{Tells, Builds};
 use tells::told;
 
@@ -83,7 +87,7 @@ pub extern "C" fn skp_open(
 ) -> u32
     ensures { λ r. ⌜ Builds (verdict (checks (length (now (out .entry))) area (length (now (kind .entry))) payload)) (openBytes area (tnf % 8) (now (kind .entry)) payload) (now (out .entry)) r (now (values .exit)) (now (out .exit)) ⌝ }
 {
-    told(begins::open(out, area, tnf, kind, payload), values)
+    told(opens::open(out, area, tnf, kind, payload), values)
 }
 
 #[no_mangle]
@@ -121,14 +125,14 @@ pub extern "C" fn skp_begin_mime(
 ) -> u32
     ensures { λ r. ⌜ Builds (verdict (checks (length (now (out .entry))) area (length (now (mime .entry))) «payload_len»)) (openBytes area 2 (now (mime .entry)) «payload_len») (now (out .entry)) r (now (values .exit)) (now (out .exit)) ⌝ }
 {
-    told(begins::begin_mime(out, area, mime, payload_len), values)
+    told(opens::begin_mime(out, area, mime, payload_len), values)
 }
 
 #[no_mangle]
 pub extern "C" fn skp_finish(out: &mut [u8], at: usize, values: &mut [usize; 2]) -> u32
     ensures { λ r. ⌜ Tells (finishAnswer (length (now (out .entry))) at) (finishAfter (now (out .entry)) at) r (now (values .exit)) (now (out .exit)) ⌝ }
 {
-    told(begins::finish(out, at), values)
+    told(closes::finish(out, at), values)
 }
 
 #[no_mangle]
@@ -166,12 +170,12 @@ pub extern "C" fn skp_mime_image(
 ) -> u32
     ensures { λ r. ⌜ Builds (mimeVerdict (length (now (out .entry))) area (now (mime .entry)) (now (payload .entry))) (mimeImage area (now (mime .entry)) (now (payload .entry))) (now (out .entry)) r (now (values .exit)) (now (out .exit)) ⌝ }
 {
-    told(image::mime_image(out, area, mime, payload), values)
+    told(mime::mime_image(out, area, mime, payload), values)
 }
 
 #[no_mangle]
 pub extern "C" fn skp_empty_image(out: &mut [u8], area: usize, values: &mut [usize; 2]) -> u32
     ensures { λ r. ⌜ Builds (emptyVerdict (length (now (out .entry))) area) (emptyImage area) (now (out .entry)) r (now (values .exit)) (now (out .exit)) ⌝ }
 {
-    told(image::empty_image(out, area), values)
+    told(empty::empty_image(out, area), values)
 }

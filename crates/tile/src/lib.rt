@@ -133,7 +133,7 @@ pub extern "C" fn skp_tile_read(
     ensures { λ a. ⌜ now (tile .exit) ≡ tileOf (didRead dev (now (head .entry)) (length (now (out .entry))) (now (identity .entry)) (now (memory .entry)) (registersOf (now (tile .entry))) .registers) ⌝ }
     ensures { λ a. ⌜ now (out .exit) ≡ outRead dev (now (head .entry)) (now (identity .entry)) (now (memory .entry)) (registersOf (now (tile .entry))) (now (out .entry)) ⌝ }
 {
-    let t = simulated::read(registers_of(tile), identity, memory, dev, head, out);
+    let t = shows::read(registers_of(tile), identity, memory, dev, head, out);
     let r = t.registers;
     *tile = tile_of(r);
     ack_of(t.ack)
@@ -144,7 +144,7 @@ pub extern "C" fn skp_tile_read(
 pub extern "C" fn skp_tile_wait(tile: &mut Tile, ms: usize)
     ensures { λ _. ⌜ now (tile .exit) ≡ tileOf (withBusy (registersOf (now (tile .entry)) .busy - ms) (registersOf (now (tile .entry)))) ⌝ }
 {
-    *tile = tile_of(simulated::wait(registers_of(tile), ms));
+    *tile = tile_of(power::wait(registers_of(tile), ms));
 }
 
 // A phone writes `bytes` from `at` on. With RF off, or past the memory, nothing changes.
@@ -153,7 +153,7 @@ pub extern "C" fn skp_tile_phone(tile: &mut Tile, memory: &mut [u8], at: usize, 
     ensures { λ _. ⌜ now (tile .exit) ≡ tileOf (phoned at (length (now (bytes .entry))) (now (memory .entry)) (registersOf (now (tile .entry)))) ⌝ }
     ensures { λ _. ⌜ now (memory .exit) ≡ memoryPhoned at (now (bytes .entry)) (now (memory .entry)) (registersOf (now (tile .entry))) ⌝ }
 {
-    *tile = tile_of(simulated::phone(registers_of(tile), memory, at, bytes));
+    *tile = tile_of(power::phone(registers_of(tile), memory, at, bytes));
 }
 
 // A cut, and power-up. Inside a cycle it leaves `bytes` of a row write, and the old system byte where `old` is not 0.
@@ -162,5 +162,5 @@ pub extern "C" fn skp_tile_cut(tile: &mut Tile, memory: &mut [u8], bytes: &[u8],
     ensures { λ _. ⌜ now (tile .exit) ≡ tileOf (poweredUp (flag old) (now (memory .entry)) (registersOf (now (tile .entry)))) ⌝ }
     ensures { λ _. ⌜ now (memory .exit) ≡ memoryLeft (now (bytes .entry)) (now (memory .entry)) (registersOf (now (tile .entry))) ⌝ }
 {
-    *tile = tile_of(simulated::cut(registers_of(tile), memory, bytes, old != 0));
+    *tile = tile_of(power::cut(registers_of(tile), memory, bytes, old != 0));
 }

@@ -7,9 +7,11 @@ use denote.Ref.{now}
 use borrow.Author.Needs.{needs}
 use Rattle.slices.specs.Walk.{onNext}
 use Rattle.slices.proofs.Splice.{part-rest}
-use Rattle.blocks.specs.declared.Block.{Block}
-use Rattle.blocks.specs.Read.{blockOf, onBlock, messageFrom}
-use Rattle.blocks.proofs.Blocks.{over-there, body-there, message-step}
+use Rattle.tlv.specs.declared.Block.{Block}
+use Rattle.tlv.specs.Blocks.{blockOf}
+use Rattle.tlv.proofs.Blocks.{over-there, body-there}
+use Rattle.blocks.specs.Read.{onBlock, messageFrom}
+use Rattle.blocks.proofs.Blocks.{message-step}
 use native.Mathlib.Omega.{arith}
 use borrow.Author.Needs.{needs}
 
