@@ -1,41 +1,95 @@
 -- The rule of the table, once for all its entries, and that every message is a C string.
 --
---   listed, at-end, none   == what `messageOf` says of a number below 36, of 255 and of any other
---   known                  == a table that is the list of entries has each number's entry
---   short                  == a message has fewer than 64 bytes, so that a zero follows it
---   printable              == and all its bytes are printable ASCII, so that its length is the string's
+--   listed, silent, at-end, none   == what `messageOf` says of numbers below 36 that have a message or none, of 255, of any other
+--   known                          == a table that is the list of entries has each number's entry
+--   widened                        == an entry's bytes with more zeros after them
+--   short                          == a message has fewer than 32 bytes, so that a zero follows it
+--   printable                      == and all its bytes are printable ASCII, so that its length is the string's
 use mathlib.Core.Path.{_≡_, refl, ap, sym, _∙_}
-use mathlib.Core.List.{List, [], _∷_, map}
+use mathlib.Core.List.{List, [], _∷_, _++_, map, append-assoc}
 use mathlib.Core.Bool.{Bool, true, false}
-use Prim.Native.Nat.{ℕ, zero, suc, _<_, _≤_}
+use Prim.Native.Nat.{ℕ, zero, suc, _+_, _-_, _<_, _≤_}
 use native.Mathlib.Omega.{arith}
 use borrow.Author.Tests.{eq-eqb, ne-eqb, ltb-true}
-use lib.ListN.{length, getD, List·getD-eq-default}
+use lib.ListN.{length, getD, take, drop, replicate, length-append, length-replicate, replicate-append-replicate, getD-replicate, List·getD-eq-default}
+use lib.Seq.{getD-take, getD-drop}
 use lib.Dec.{ltb, eqb}
 use Rattle.slices.specs.Pick.{pick}
+use Rattle.slices.specs.Bytes.{splice}
 use Rattle.slices.proofs.Cases.{pick-cases, lt-or-ge}
+use Rattle.slices.proofs.Splice.{splice-front}
 use Rattle.uri.specs.Prefixes.{ascii}
 use Rattle.uri.proofs.Table.{map-at}
 use Rattle.messages.specs.declared.Line.{Line}
-use Rattle.messages.specs.Messages.{messages, messageOf, entry}
+use Rattle.messages.specs.Messages.{messages, messageOf, padded, told, lines, entry}
+
+-- the same stretch of two lists: what stands in it is the same
+window : (l m : List (List ℕ)) (a b k j : ℕ) → take k (drop a l) ≡ take k (drop b m) → j < k → getD l (a + j) [] ≡ getD m (b + j) []
+window l m a b k j e h =
+    sym (getD-drop a l j [])
+    ∙ sym (getD-take k (drop a l) j [] h)
+    ∙ ap (λ (x : List (List ℕ)). getD x j []) e
+    ∙ getD-take k (drop b m) j [] h
+    ∙ getD-drop b m j []
+
+-- one more, empty: no place tells the difference
+tail : (l : List (List ℕ)) (s : ℕ) → getD (l ++ ([] ∷ [])) s [] ≡ getD l s []
+tail [] zero = refl
+tail [] (suc s) = refl
+tail (x ∷ l) zero = refl
+tail (x ∷ l) (suc s) = tail l s
 
 module _ (n : ℕ) where
-  pub listed : n < 36 → messageOf n ≡ getD messages n []
+  below : (n ≡ 255 → ⊥) → messageOf n ≡ getD messages n []
   unfolding messageOf
-  listed h = let d : n ≡ 255 → ⊥ = λ e. omega arith in simp (ne-eqb n 255 d)
+  below d = simp (ne-eqb n 255 d)
 
-  pub at-end : n ≡ 255 → messageOf n ≡ ascii "no more records"
-  unfolding messageOf
+  -- k numbers from a on, which the table keeps from b on
+  pub listed : (a b k : ℕ) → take k (drop a messages) ≡ take k (drop b lines) → a ≤ n → n < a + k → a + k ≤ 36 → (s : ℕ)
+      → b + (n - a) ≡ s → messageOf n ≡ getD lines s []
+  listed a b k e h g f s p =
+      let i : n ≡ a + (n - a) = omega arith in
+      let d : n ≡ 255 → ⊥ = λ q. omega arith in
+      below d ∙ ap (λ (m : ℕ). getD messages m []) i ∙ window messages lines a b k (n - a) e (omega arith) ∙ ap (λ (m : ℕ). getD lines m []) p
+
+  pub at-end : n ≡ 255 → messageOf n ≡ getD lines 21 []
+  unfolding messageOf messages lines told ascii
   at-end h = simp (eq-eqb n 255 h)
 
-  pub none : 36 ≤ n → (n ≡ 255 → ⊥) → messageOf n ≡ []
-  unfolding messageOf messages
+  -- k numbers from a on that have none
+  pub silent : (a k : ℕ) → take k (drop a messages) ≡ replicate k [] → a ≤ n → n < a + k → a + k ≤ 36 → messageOf n ≡ getD lines 22 []
+  unfolding messages lines told ascii
+  silent a k e h g f =
+      let i : n ≡ a + (n - a) = omega arith in
+      let d : n ≡ 255 → ⊥ = λ q. omega arith in
+      below d
+      ∙ ap (λ (m : ℕ). getD messages m []) i
+      ∙ sym (getD-drop a messages (n - a) [])
+      ∙ sym (getD-take k (drop a messages) (n - a) [] (omega arith))
+      ∙ ap (λ (x : List (List ℕ)). getD x (n - a) []) e
+      ∙ getD-replicate k (n - a) [] [] (omega arith)
+
+  pub none : 36 ≤ n → (n ≡ 255 → ⊥) → messageOf n ≡ getD lines 22 []
+  unfolding messageOf messages lines told ascii
   none h d = simp (ne-eqb n 255 d) (List·getD-eq-default messages [] h)
 
-  pub known : (table : List Line) (d : Line) → table ≡ map entry messages → n < 36 → getD table n d ≡ entry (messageOf n)
-  unfolding messages
-  known table d e h =
-      ap (λ (l : List Line). getD l n d) e ∙ map-at entry messages n [] d h ∙ ap entry (sym (listed h))
+  pub known : (table : List Line) (d : Line) → table ≡ map entry (lines ++ ([] ∷ [])) → {s : ℕ} → s ≤ 22 → messageOf n ≡ getD lines s [] → getD table s d ≡ entry (messageOf n)
+  unfolding messages lines told ascii
+  known table d e {s} h m =
+      ap (λ (l : List Line). getD l s d) e
+      ∙ map-at entry (lines ++ ([] ∷ [])) s [] d (omega arith)
+      ∙ ap entry (tail lines s ∙ sym m)
+
+-- as the table keeps it, with more zeros
+pub widened : (m : List ℕ) → length m ≤ 32 → splice (replicate 64 0) 0 (padded 32 m) ≡ padded 64 m
+unfolding padded
+widened m h =
+    let l : length (padded 32 m) ≡ 32 = length-append m (replicate (32 - length m) 0) ∙ ap (λ (k : ℕ). length m + k) (length-replicate (32 - length m) 0) ∙ omega arith in
+    let z : 32 - length m + 32 ≡ 64 - length m = omega arith in
+    splice-front (replicate 64 0) (padded 32 m)
+    ∙ ap (λ (k : ℕ). padded 32 m ++ drop k (replicate 64 0)) l
+    ∙ append-assoc m (replicate (32 - length m) 0) (replicate 32 0)
+    ∙ ap (λ (z : List ℕ). m ++ z) (replicate-append-replicate (32 - length m) 32 0 ∙ ap (λ (k : ℕ). replicate k 0) z)
 
 -- a test holds of all elements of a list
 every : {A : Type 0} → (A → Bool) → List A → Bool
@@ -58,9 +112,9 @@ each : (p : List ℕ → Bool) (n : ℕ) → p [] ≡ true → every p messages 
 unfolding messageOf
 each p n z e l = pick-cases (λ m. p m ≡ true) (eqb n 255) (λ w. l) (λ w. every-at p messages [] n z e)
 
-pub short : (n : ℕ) → length (messageOf n) < 64
+pub short : (n : ℕ) → length (messageOf n) < 32
 unfolding messages ascii every
-short n = ltb-true _ _ (each (λ m. ltb (length m) 64) n refl refl refl)
+short n = ltb-true _ _ (each (λ m. ltb (length m) 32) n refl refl refl)
 
 -- from the space on, below DEL
 letter : ℕ → Bool

@@ -3,7 +3,9 @@
 --
 --   messages       == the messages of 0 to 35; a number that document 01 does not have has none
 --   messageOf n    == the message of the number n; 255 is the end of a walk
---   padded m       == the message m as C gets it: zeros after it, up to 64 bytes
+--   padded n m     == the message m with zeros after it, up to n bytes: C gets 64
+--   told l         == those of the messages l that have a byte
+--   lines          == every message there is, by its number: what the table keeps
 --   entry m        == the message m as the table keeps it
 use mathlib.Core.List.{List, [], _∷_, _++_}
 use Prim.Native.Nat.{ℕ, _-_}
@@ -56,8 +58,16 @@ messages =
 unfoldable pub messageOf : ℕ → List ℕ
 messageOf n = pick (eqb n 255) (ascii "no more records") (getD messages n [])
 
-unfoldable pub padded : List ℕ → List ℕ
-padded m = m ++ replicate (64 - length m) 0
+unfoldable pub padded : ℕ → List ℕ → List ℕ
+padded n m = m ++ replicate (n - length m) 0
+
+unfoldable pub told : List (List ℕ) → List (List ℕ)
+told [] = []
+told ([] ∷ l) = told l
+told ((b ∷ m) ∷ l) = (b ∷ m) ∷ told l
+
+unfoldable pub lines : List (List ℕ)
+lines = told messages ++ (ascii "no more records" ∷ [])
 
 abbrev pub entry : List ℕ → Line
-entry m = record { len = length m; text = padded m }
+entry m = record { len = length m; text = padded 32 m }

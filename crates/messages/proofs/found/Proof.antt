@@ -1,10 +1,13 @@
+use mathlib.Core.Path.{refl}
 use borrow.Author.Needs.{needs}
+use Rattle.uri.specs.Prefixes.{ascii}
+use Rattle.messages.specs.Messages.{messages, padded, told, lines}
+use Rattle.messages.proofs.Table.{known}
 use Rattle.messages.proofs.found.Statement.{statement}
 use Rattle.messages.proofs.found.Tie as tie
-use mathlib.Core.Path.{refl, sym, ap}
-use Rattle.uri.specs.Prefixes.{ascii}
-use Rattle.messages.specs.Messages.{messages, padded, entry}
-use Rattle.messages.proofs.Table.{known, at-end, none}
+
+slot-requires : tie.Need-slot-requires
+slot-requires c κs = search needs
 
 mul-result : tie.Need-mul-result
 mul-result c = search needs
@@ -13,16 +16,8 @@ array-copy-out-result : tie.Need-array-copy-out-result
 array-copy-out-result c = search needs
 
 returns : tie.Need-returns
-unfolding messages padded ascii
-returns c = known _ _ _ refl (search needs)
-
-returns-2 : tie.Need-returns-2
-unfolding padded ascii
-returns-2 c = ap entry (sym (at-end _ (c .before .before .if2 .taken)))
-
-returns-3 : tie.Need-returns-3
-unfolding padded
-returns-3 c = ap entry (sym (none _ (search needs) (c .if2 .left)))
+unfolding messages lines told padded ascii
+returns c = let h = c .before .slot .ensures in known _ _ _ refl (h .0) (h .1)
 
 pub found-spec : {M : Type 1} → statement M
-found-spec = tie.close (tie.spec mul-result array-copy-out-result returns returns-2 returns-3)
+found-spec = tie.close (tie.spec slot-requires mul-result array-copy-out-result returns)
