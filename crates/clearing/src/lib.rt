@@ -3,12 +3,12 @@ ghost use mathlib.Core.Path.{_≡_};
 ghost use Prim.Native.Nat.{_≤_};
 ghost use Rattle.protocol.specs.Mark.{wipeEnd};
 ghost use Rattle.stages.specs.Turns.{wroteByte, wipeTurn, wipeStart, firstAnswer, finishTurn, finishStart, statusTurn};
+use chunks::scrub_new;
 use protocol::answer::Answer;
 use protocol::answer::TagError;
 use stages::stage::Stage;
 use stages::stage::Turn;
 use wipe::scrub::Scrubbed;
-use wipe::scrub::scrub_new;
 
 // Where a wipe ends: the mark up to the end of its row, inside the part.
 pub fn wipe_end(m: usize) -> usize
