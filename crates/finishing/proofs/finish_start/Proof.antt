@@ -1,6 +1,6 @@
 use borrow.Author.Needs.{needs}
-use Rattle.clearing.proofs.finish_start.Statement.{statement}
-use Rattle.clearing.proofs.finish_start.Tie as tie
+use Rattle.finishing.proofs.finish_start.Statement.{statement}
+use Rattle.finishing.proofs.finish_start.Tie as tie
 use mathlib.Core.Path.{ap, _∙_}
 use Rattle.wipe.specs.declared.scrub.Scrubbed.{Scrubbed}
 use Rattle.wipe.specs.Scrub.{scrubNew}

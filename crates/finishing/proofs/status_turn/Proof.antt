@@ -1,6 +1,6 @@
 use borrow.Author.Needs.{needs}
-use Rattle.clearing.proofs.status_turn.Statement.{statement}
-use Rattle.clearing.proofs.status_turn.Tie as tie
+use Rattle.finishing.proofs.status_turn.Statement.{statement}
+use Rattle.finishing.proofs.status_turn.Tie as tie
 use Rattle.protocol.specs.Mark.{whole}
 
 wrote-requires : tie.Need-wrote-requires

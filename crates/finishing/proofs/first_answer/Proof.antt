@@ -1,5 +1,5 @@
-use Rattle.clearing.proofs.first_answer.Statement.{statement}
-use Rattle.clearing.proofs.first_answer.Tie as tie
+use Rattle.finishing.proofs.first_answer.Statement.{statement}
+use Rattle.finishing.proofs.first_answer.Tie as tie
 
 returns : tie.Need-returns
 returns c = simp (c .if1 .taken)

@@ -1,6 +1,6 @@
 use borrow.Author.Needs.{needs}
-use Rattle.clearing.proofs.finish_turn.Statement.{statement}
-use Rattle.clearing.proofs.finish_turn.Tie as tie
+use Rattle.finishing.proofs.finish_turn.Statement.{statement}
+use Rattle.finishing.proofs.finish_turn.Tie as tie
 use mathlib.Core.Path.{ap}
 use Rattle.protocol.specs.Mark.{none}
 use Rattle.stages.specs.declared.stage.Turn.the-variants.{Over}
