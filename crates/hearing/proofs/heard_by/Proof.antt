@@ -1,6 +1,6 @@
 use borrow.Author.Needs.{needs}
-use Rattle.opening.proofs.heard_by.Statement.{statement}
-use Rattle.opening.proofs.heard_by.Tie as tie
+use Rattle.hearing.proofs.heard_by.Statement.{statement}
+use Rattle.hearing.proofs.heard_by.Tie as tie
 
 enum-known-d : tie.Need-enum-known-d
 enum-known-d c = search needs

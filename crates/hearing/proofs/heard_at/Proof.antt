@@ -1,6 +1,6 @@
 use borrow.Author.Needs.{needs}
-use Rattle.opening.proofs.heard_at.Statement.{statement}
-use Rattle.opening.proofs.heard_at.Tie as tie
+use Rattle.hearing.proofs.heard_at.Statement.{statement}
+use Rattle.hearing.proofs.heard_at.Tie as tie
 
 decode-requires : tie.Need-decode-requires
 decode-requires c κs = search needs

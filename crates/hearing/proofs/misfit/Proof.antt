@@ -1,6 +1,6 @@
 use borrow.Author.Needs.{needs}
-use Rattle.opening.proofs.misfit.Statement.{statement}
-use Rattle.opening.proofs.misfit.Tie as tie
+use Rattle.hearing.proofs.misfit.Statement.{statement}
+use Rattle.hearing.proofs.misfit.Tie as tie
 
 short-requires : tie.Need-short-requires
 short-requires c κs = search needs

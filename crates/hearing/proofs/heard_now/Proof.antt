@@ -1,6 +1,6 @@
 use borrow.Author.Needs.{needs}
-use Rattle.opening.proofs.heard_now.Statement.{statement}
-use Rattle.opening.proofs.heard_now.Tie as tie
+use Rattle.hearing.proofs.heard_now.Statement.{statement}
+use Rattle.hearing.proofs.heard_now.Tie as tie
 
 enum-told : tie.Need-enum-told
 enum-told c = search needs
