@@ -3,7 +3,7 @@ ghost use mathlib.Core.Path.{_≡_};
 ghost use Rattle.telling.specs.Left.{Leaves, nextLeft, newStep, newState, dirtyDecoded, dirtyStep};
 ghost use Rattle.entry.specs.Going.{Inside};
 use decoding::decode;
-use opening::heard_at;
+use hearing::heard_at;
 use session::session::Session;
 use settling::ask;
 use settling::store;

@@ -3,6 +3,9 @@ ghost use mathlib.Core.Path.{_≡_};
 ghost use Prim.Native.Nat.{_≤_};
 ghost use lib.ListN.{length};
 ghost use Rattle.wiping.specs.Onward.{ledOf, Leads, AnyLeads};
+use chunks::next_row;
+use chunks::read_step;
+use chunks::reread_step;
 use machine::wait::Wait;
 use session::session::Session;
 use sound::chunk_stop;
@@ -11,9 +14,6 @@ use wipe::scrub::Chunk;
 use wipe::scrub::Rows;
 use wipe::scrub::Scrub;
 use wipe::scrub::Scrubbed;
-use wipe::scrub::next_row;
-use wipe::scrub::read_step;
-use wipe::scrub::reread_step;
 use wiping::after::Onward;
 
 fn led(rows: usize, s: Scrubbed) -> Onward

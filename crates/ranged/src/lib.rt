@@ -7,12 +7,12 @@ ghost use Rattle.protocol.specs.Mark.{widened};
 ghost use Rattle.protocol.specs.Write.{past};
 ghost use Rattle.stages.specs.Turns.{startOf};
 use machine::switch::Switch;
+use programming::write_new;
 use protocol::answer::Answer;
 use protocol::answer::TagError;
 use stages::stage::Stage;
 use stages::stage::Turn;
 use turns::write_turn;
-use writing::write::write_new;
 
 // Whether n bytes at `at` end past the part. Nothing is added to `at` before it is known to be small.
 pub fn past(at: usize, n: usize) -> bool

@@ -4,7 +4,7 @@ ghost use Rattle.telling.specs.Left.{Leaves, repliedLeft, replyLeft};
 ghost use Rattle.telling.specs.declared.opening.Heard.the-variants.{Goes};
 ghost use Rattle.entry.specs.Going.{Going};
 use counting::stage_count;
-use opening::heard_at;
+use hearing::heard_at;
 use settling::settle;
 use shortcut::leave;
 use shortcut::next_of;

@@ -158,7 +158,7 @@ pub fn leave(state: &mut [u8], transfer: &mut [u8], f: Flat, s: Scrub) -> u64
     ensures { λ _. ⌜ now (transfer .exit) ≡ padded (sent (meant [] (scrubAsk s))) ++ drop 19 (now (transfer .entry)) ⌝ }
 {
     copy_to(state, 0, &bytes(f));
-    let a = s.ask();
+    let a = scrubbing::ask(s);
     copy_to(transfer, 0, &frame(a, &[]));
     ask_step(false, a)
 }

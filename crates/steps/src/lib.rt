@@ -4,10 +4,10 @@ ghost use Prim.Native.Nat.{_≤_};
 ghost use lib.ListN.{length};
 ghost use Rattle.stages.specs.Turns.{stageAsk, stageStep};
 ghost use Rattle.stages.specs.Able.{Able, gotBy};
-use clearing::finish_turn;
-use clearing::status_turn;
 use clearing::wipe_turn;
-use clearing::wrote;
+use finishing::finish_turn;
+use finishing::status_turn;
+use finishing::wrote;
 use machine::ask::Ask;
 use machine::switch::Switch;
 use protocol::answer::Answer;
@@ -36,19 +36,19 @@ pub fn stage_ask(st: Stage, len: usize) -> Ask
         Stage::Prepare(s) => s.ask(),
         Stage::WaitReady(w) => w.ask(),
         Stage::ReadUser(at, n) => Ask::Read(0x53, at, n),
-        Stage::Write(w) => w.ask(len),
+        Stage::Write(w) => programming::ask(w, len),
         Stage::Switching(s) => s.ask(),
         Stage::RfWrote => Ask::Read(0x53, 0x2005, 1),
         Stage::WholeOff(s) => s.ask(),
         Stage::WholeStatus => Ask::Read(0x53, 0x2005, 1),
         Stage::WholeRead => Ask::Read(0x53, 0, 8192),
-        Stage::Wipe(s) => s.ask(),
+        Stage::Wipe(s) => scrubbing::ask(s),
         Stage::BeginSetup(s) => s.ask(),
         Stage::BeginOff(s) => s.ask(),
         Stage::LiveStatus => Ask::Read(0x53, 0x2005, 1),
         Stage::FinishOff(s) => s.ask(),
         Stage::FinishStatus(_) => Ask::Read(0x53, 0x2005, 1),
-        Stage::FinishWipe(_, s) => s.ask(),
+        Stage::FinishWipe(_, s) => scrubbing::ask(s),
     }
 }
 
@@ -62,18 +62,18 @@ pub fn stage_step(st: Stage, m: usize, ack: bool, reply: &[u8], lent: &[u8], out
         Stage::Prepare(s) => prepare_turn(m, s.step(ack, reply)),
         Stage::WaitReady(w) => wait_turn(m, w.step(ack)),
         Stage::ReadUser(_, _) => read_turn(m, ack),
-        Stage::Write(w) => write_turn(m, w.step(ack, reply, lent)),
+        Stage::Write(w) => write_turn(m, programming::step(w, ack, reply, lent)),
         Stage::Switching(s) => switch_turn(m, s.step(ack, reply[0])),
         Stage::RfWrote => Turn::Over(m, Answer::Wrote(wrote(ack, reply[0]))),
         Stage::WholeOff(s) => whole_turn(m, s.step(ack, reply[0])),
         Stage::WholeStatus => Turn::Open(m, Stage::WholeRead),
         Stage::WholeRead => whole_read_turn(m, ack, out),
-        Stage::Wipe(s) => wipe_turn(m, s.step(ack, reply)),
+        Stage::Wipe(s) => wipe_turn(m, scrubbing::step(s, ack, reply)),
         Stage::BeginSetup(s) => begin_turn(m, s.step(ack, reply)),
         Stage::BeginOff(s) => begin_off_turn(m, s.step(ack, reply[0])),
         Stage::LiveStatus => Turn::Open(m, Stage::Switching(Switch::new(true))),
         Stage::FinishOff(s) => finish_off_turn(m, s.step(ack, reply[0])),
         Stage::FinishStatus(stuck) => status_turn(m, stuck, ack, reply[0]),
-        Stage::FinishWipe(stuck, s) => finish_turn(m, stuck, s.step(ack, reply)),
+        Stage::FinishWipe(stuck, s) => finish_turn(m, stuck, scrubbing::step(s, ack, reply)),
     }
 }

@@ -1,2 +1,2 @@
-// write as a machine: rows, then the read back.
+// write as a machine: its states, and the law that it does what the tree says. No code: that is in `programming` and `comparing`.
 pub mod write;

@@ -7,7 +7,7 @@ use Rattle.slices.proofs.copy_to.Reads as copy-to-reads
 use Rattle.state.proofs.bytes.bytes.Reads as bytes-reads
 use Rattle.framing.proofs.frame.Reads as frame-reads
 use Rattle.telling.proofs.step.ask_step.Reads as ask-step-reads
-use Rattle.wipe.proofs.scrub.Scrub.ask.Reads as ask-reads
+use Rattle.scrubbing.proofs.ask.Reads as ask-reads
 use Rattle.telling.specs.Step.{AskFits}
 use mathlib.Core.Path.{subst, sym}
 use denote.Ref.{now}

@@ -1,0 +1,29 @@
+use borrow.Author.Needs.{needs}
+use Rattle.programming.proofs.waited_step.Statement.{statement}
+use Rattle.programming.proofs.waited_step.Tie as tie
+
+enum-known-w : tie.Need-enum-known-w
+enum-known-w c = search needs
+
+enum-told : tie.Need-enum-told
+enum-told c = search needs
+
+next-piece-requires : tie.Need-next-piece-requires
+next-piece-requires c κs = search needs
+
+enum-told-2 : tie.Need-enum-told-2
+enum-told-2 c = search needs
+
+returns : tie.Need-returns
+returns c = rw (c .before .w .given .1)
+
+returns-2 : tie.Need-returns-2
+returns-2 c = rw (c .before .enum-told .given .1) (c .next-piece .ensures)
+
+returns-3 : tie.Need-returns-3
+returns-3 c = rw (c .enum-told2 .given .1)
+
+pub waited-step-spec : {M : Type 1} → statement M
+waited-step-spec =
+    tie.close
+    (tie.spec enum-known-w enum-told next-piece-requires enum-told-2 returns returns-2 returns-3)
