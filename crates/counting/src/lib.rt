@@ -32,23 +32,10 @@ fn stage_row(st: Stage) -> bool
     ensures { λ r. ⌜ StageRow st r ⌝ }
 {
     match st {
-        Stage::Identify => false,
-        Stage::Prepare(_) => false,
-        Stage::WaitReady(_) => false,
-        Stage::ReadUser(_, _) => false,
         Stage::Write(w) => write_row(w),
-        Stage::Switching(_) => false,
-        Stage::RfWrote => false,
-        Stage::WholeOff(_) => false,
-        Stage::WholeStatus => false,
-        Stage::WholeRead => false,
         Stage::Wipe(s) => scrub_row(s),
-        Stage::BeginSetup(_) => false,
-        Stage::BeginOff(_) => false,
-        Stage::LiveStatus => false,
-        Stage::FinishOff(_) => false,
-        Stage::FinishStatus(_) => false,
         Stage::FinishWipe(_, s) => scrub_row(s),
+        _ => false,
     }
 }
 

@@ -1,23 +1,7 @@
 use borrow.Author.Needs.{needs}
 use Rattle.counting.proofs.stage_row.Statement.{statement}
 use Rattle.counting.proofs.stage_row.Tie as tie
-use Rattle.counting.proofs.stage_row.Reads as reads
-use Rattle.counting.proofs.stage_row.Lts as lts
-use Rattle.counting.proofs.scrub_row.Reads as scrub-row-reads
-use Rattle.counting.proofs.write_row.Reads as write-row-reads
-use Rattle.counting.proofs.Counts.{wait-row, switch-row, setup-row}
-
-enum-told : tie.Need-enum-told
-enum-told c = search needs
-
-enum-told-2 : tie.Need-enum-told-2
-enum-told-2 c = search needs
-
-enum-told-3 : tie.Need-enum-told-3
-enum-told-3 c = search needs
-
-enum-told-4 : tie.Need-enum-told-4
-enum-told-4 c = search needs
+use Rattle.counting.proofs.Counts.{others}
 
 enum-known-st : tie.Need-enum-known-st
 enum-known-st c = search needs
@@ -25,41 +9,11 @@ enum-known-st c = search needs
 write-row-requires : tie.Need-write-row-requires
 write-row-requires c κs = search needs
 
-enum-told-5 : tie.Need-enum-told-5
-enum-told-5 c = search needs
-
-enum-told-6 : tie.Need-enum-told-6
-enum-told-6 c = search needs
-
-enum-told-7 : tie.Need-enum-told-7
-enum-told-7 c = search needs
-
-enum-told-8 : tie.Need-enum-told-8
-enum-told-8 c = search needs
-
-enum-told-9 : tie.Need-enum-told-9
-enum-told-9 c = search needs
-
 enum-known-st-2 : tie.Need-enum-known-st-2
 enum-known-st-2 c = search needs
 
 scrub-row-requires : tie.Need-scrub-row-requires
 scrub-row-requires c κs = search needs
-
-enum-told-10 : tie.Need-enum-told-10
-enum-told-10 c = search needs
-
-enum-told-11 : tie.Need-enum-told-11
-enum-told-11 c = search needs
-
-enum-told-12 : tie.Need-enum-told-12
-enum-told-12 c = search needs
-
-enum-told-13 : tie.Need-enum-told-13
-enum-told-13 c = search needs
-
-enum-told-14 : tie.Need-enum-told-14
-enum-told-14 c = search needs
 
 enum-known-st-3 : tie.Need-enum-known-st-3
 enum-known-st-3 c = search needs
@@ -68,94 +22,28 @@ scrub-row-requires-2 : tie.Need-scrub-row-requires-2
 scrub-row-requires-2 c κs = search needs
 
 returns : tie.Need-returns
-returns c = λ n. rw (c .enum-told .given .1)
+returns c = λ n. rw (c .before .before .st .given .1) (c .write-row .ensures n)
 
 returns-2 : tie.Need-returns-2
-returns-2 c = λ n. rw (c .enum-told2 .given .1) (setup-row (c .enum-told2 .given .0 .0))
+returns-2 c = λ n. rw (c .before .before .st2 .given .1) (c .scrub-row .ensures)
 
 returns-3 : tie.Need-returns-3
-returns-3 c = λ n. rw (c .enum-told3 .given .1) (wait-row (c .enum-told3 .given .0 .0))
+returns-3 c = λ n. rw (c .before .before .st3 .given .1) (c .scrub-row2 .ensures)
 
 returns-4 : tie.Need-returns-4
-returns-4 c = λ n. rw (c .enum-told4 .given .1)
-
-returns-5 : tie.Need-returns-5
-returns-5 c = λ n. rw (c .before .before .st .given .1) (c .write-row .ensures n)
-
-returns-6 : tie.Need-returns-6
-returns-6 c = λ n. rw (c .enum-told5 .given .1) (switch-row (c .enum-told5 .given .0 .0))
-
-returns-7 : tie.Need-returns-7
-returns-7 c = λ n. rw (c .enum-told6 .given .1)
-
-returns-8 : tie.Need-returns-8
-returns-8 c = λ n. rw (c .enum-told7 .given .1) (switch-row (c .enum-told7 .given .0 .0))
-
-returns-9 : tie.Need-returns-9
-returns-9 c = λ n. rw (c .enum-told8 .given .1)
-
-returns-10 : tie.Need-returns-10
-returns-10 c = λ n. rw (c .enum-told9 .given .1)
-
-returns-11 : tie.Need-returns-11
-returns-11 c = λ n. rw (c .before .before .st2 .given .1) (c .scrub-row .ensures)
-
-returns-12 : tie.Need-returns-12
-returns-12 c = λ n. rw (c .enum-told10 .given .1) (setup-row (c .enum-told10 .given .0 .0))
-
-returns-13 : tie.Need-returns-13
-returns-13 c = λ n. rw (c .enum-told11 .given .1) (switch-row (c .enum-told11 .given .0 .0))
-
-returns-14 : tie.Need-returns-14
-returns-14 c = λ n. rw (c .enum-told12 .given .1)
-
-returns-15 : tie.Need-returns-15
-returns-15 c = λ n. rw (c .enum-told13 .given .1) (switch-row (c .enum-told13 .given .0 .0))
-
-returns-16 : tie.Need-returns-16
-returns-16 c = λ n. rw (c .enum-told14 .given .1)
-
-returns-17 : tie.Need-returns-17
-returns-17 c = λ n. rw (c .before .before .st3 .given .1) (c .scrub-row2 .ensures)
+returns-4 c = others (c .before .args .st) (c .match .keys4)
 
 pub stage-row-spec : {M : Type 1} → statement M
 stage-row-spec =
     tie.close
     (tie.spec
-    enum-told
-    enum-told-2
-    enum-told-3
-    enum-told-4
     enum-known-st
     write-row-requires
-    enum-told-5
-    enum-told-6
-    enum-told-7
-    enum-told-8
-    enum-told-9
     enum-known-st-2
     scrub-row-requires
-    enum-told-10
-    enum-told-11
-    enum-told-12
-    enum-told-13
-    enum-told-14
     enum-known-st-3
     scrub-row-requires-2
     returns
     returns-2
     returns-3
-    returns-4
-    returns-5
-    returns-6
-    returns-7
-    returns-8
-    returns-9
-    returns-10
-    returns-11
-    returns-12
-    returns-13
-    returns-14
-    returns-15
-    returns-16
-    returns-17)
+    returns-4)
