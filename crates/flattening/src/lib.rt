@@ -199,23 +199,18 @@ fn stage_code(st: Stage) -> Code
     ensures { λ r. ⌜ r ≡ stageCode st ⌝ }
 {
     match st {
-        Stage::Identify => code(0, 0, 0, 0),
         Stage::Prepare(s) => setup_code(s),
         Stage::WaitReady(w) => wait_code(0, 0, w),
-        Stage::ReadUser(_, _) => code(0, 0, 0, 0),
         Stage::Write(w) => write_code(w),
         Stage::Switching(s) => switch_code(s),
-        Stage::RfWrote => code(0, 0, 0, 0),
         Stage::WholeOff(s) => switch_code(s),
-        Stage::WholeStatus => code(0, 0, 0, 0),
-        Stage::WholeRead => code(0, 0, 0, 0),
         Stage::Wipe(s) => scrub_code(0, s),
         Stage::BeginSetup(s) => setup_code(s),
         Stage::BeginOff(s) => switch_code(s),
-        Stage::LiveStatus => code(0, 0, 0, 0),
         Stage::FinishOff(s) => switch_code(s),
         Stage::FinishStatus(stuck) => code(0, 0, bit(stuck), 0),
         Stage::FinishWipe(stuck, s) => scrub_code(bit(stuck), s),
+        _ => code(0, 0, 0, 0),
     }
 }
 
@@ -223,23 +218,11 @@ fn stage_place(st: Stage) -> Place
     ensures { λ r. ⌜ r ≡ stagePlace st ⌝ }
 {
     match st {
-        Stage::Identify => place(0, 0, 0, 0),
-        Stage::Prepare(_) => place(0, 0, 0, 0),
-        Stage::WaitReady(_) => place(0, 0, 0, 0),
         Stage::ReadUser(at, n) => place(0, at, n, 0),
         Stage::Write(w) => write_place(w),
-        Stage::Switching(_) => place(0, 0, 0, 0),
-        Stage::RfWrote => place(0, 0, 0, 0),
-        Stage::WholeOff(_) => place(0, 0, 0, 0),
-        Stage::WholeStatus => place(0, 0, 0, 0),
-        Stage::WholeRead => place(0, 0, 0, 0),
         Stage::Wipe(s) => scrub_place(s),
-        Stage::BeginSetup(_) => place(0, 0, 0, 0),
-        Stage::BeginOff(_) => place(0, 0, 0, 0),
-        Stage::LiveStatus => place(0, 0, 0, 0),
-        Stage::FinishOff(_) => place(0, 0, 0, 0),
-        Stage::FinishStatus(_) => place(0, 0, 0, 0),
         Stage::FinishWipe(_, s) => scrub_place(s),
+        _ => place(0, 0, 0, 0),
     }
 }
 
