@@ -1,4 +1,4 @@
--- Each program of specs/Slips on a part where it goes wrong.
+-- Each program of nothing_left/specs/Slips on a part where it goes wrong.
 use mathlib.Core.Path.{_≡_, refl, ap}
 use mathlib.Core.Bool.{false}
 use mathlib.Core.Logic.{⊎-elim}

@@ -1,4 +1,5 @@
--- Wrong programs that demand 3 throws out. Read it after Theorems. What they do is in specs/Slips, the claims in specs/Claims.
+-- Wrong programs that demand 3 throws out. Read it after nothing_left/proofs/Theorems. What they do is in nothing_left/specs/Slips, the
+-- claims in nothing_left/specs/Claims.
 -- For each there is a power-up, a session or a part on which a claim fails; the proofs, in Slips and Earlys, give it.
 use mathlib.Core.Path.{_≡_, refl}
 use Rattle.protocol.specs.Mark.{Mark}
@@ -8,12 +9,12 @@ use Rattle.protocol.specs.Scrub as s
 use Rattle.protocol.specs.Call.{Call, identify, prepare, waitReady, readUser, write, rfOff, rfOn, rfWrote, readWhole, scrub, begin, goLive, finish}
 use Rattle.protocol.specs.Calls as calls
 use Rattle.protocol.specs.Calls.{callOf}
 use Rattle.nothing_left.specs.Trees.{treeOf}
 use Rattle.nothing_left.specs.Slips.{callsBy, wiping, refusesEverything, wipesNothing, wipesFirstChunk, wipesToMark, prepareSkips, beginEarly, goesLiveLate, finishTrusts, finishAsksEarly, writeForgets, readsEarly}
 use Rattle.nothing_left.specs.Claims.{NothingLeft, CoveredOrReported, FinishLeavesNothing, ScrubExact}
-use Rattle.nothing_left.proofs.Slips as slip
-use Rattle.nothing_left.proofs.Earlys as early
+use Rattle.thrown_out.proofs.Slips as slip
+use Rattle.thrown_out.proofs.Earlys as early
 use Rattle.nothing_left.proofs.Theorems.{nothing-left, covered-or-reported, finish-leaves-nothing, scrub-exact}
 
 -- The right program meets every claim: these are the theorems.
 pub right-begins : NothingLeft treeOf
