@@ -21,9 +21,10 @@ use Rattle.blocks.specs.Read.{readOf, numberOf}
 use Rattle.records.specs.declared.Record.{Record}
 use Rattle.records.specs.declared.Parsed.{Parsed}
 use Rattle.records.specs.declared.Parsed.the-variants as parsed
-use Rattle.records.specs.Parse.{flag, headLen, payloadLen, idLen, wholeOf, parseOf}
+use Rattle.heads.specs.Heads.{flag, headLen, payloadLen, idLen}
+use Rattle.records.specs.Parse.{wholeOf, parseOf}
 use Rattle.pieces.specs.Parts.{partOf, kindOf}
-use Rattle.records.proofs.Heads.{head-least}
+use Rattle.heads.proofs.Heads.{head-least}
 use Rattle.records.proofs.Records.{record-there}
 use Rattle.walk.specs.declared.Entry.{Entry}
 use Rattle.walk.specs.declared.Entry.the-variants as entry

@@ -8,7 +8,8 @@ use Prim.Native.Nat.{ℕ}
 use Rattle.slices.specs.Walk.{walk, walkF}
 use Rattle.tlv.specs.Blocks.{tlvLength, bodyOf, blockOf}
 use Rattle.blocks.specs.Read.{messageFrom, containerLen, readOf}
-use Rattle.records.specs.Parse.{headLen, payloadLen, idLen, wholeOf, parseOf}
+use Rattle.heads.specs.Heads.{headLen, payloadLen, idLen}
+use Rattle.records.specs.Parse.{wholeOf, parseOf}
 use Rattle.pieces.specs.Parts.{partOf}
 use Rattle.walk.specs.Step.{stepOf}
 use Rattle.walk.specs.Walked.{walkedFrom}

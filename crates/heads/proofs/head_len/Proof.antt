@@ -1,7 +1,7 @@
-use Rattle.records.proofs.head_len.Statement.{statement}
-use Rattle.records.proofs.head_len.Tie as tie
+use Rattle.heads.proofs.head_len.Statement.{statement}
+use Rattle.heads.proofs.head_len.Tie as tie
 use borrow.Author.Tests.{eq-eqb, ne-eqb}
-use Rattle.records.proofs.Heads.{head-at}
+use Rattle.heads.proofs.Heads.{head-at}
 use native.Mathlib.Omega.{arith}
 
 returns : tie.Need-returns

@@ -1,9 +1,9 @@
 use borrow.Author.Needs.{needs}
-use Rattle.records.proofs.id_len.Statement.{statement}
-use Rattle.records.proofs.id_len.Tie as tie
+use Rattle.heads.proofs.id_len.Statement.{statement}
+use Rattle.heads.proofs.id_len.Tie as tie
 use borrow.Author.Tests.{eq-eqb, ne-eqb}
-use Rattle.records.specs.Parse.{idLen}
-use Rattle.records.proofs.Heads.{head-at}
+use Rattle.heads.specs.Heads.{idLen}
+use Rattle.heads.proofs.Heads.{head-at}
 use native.Mathlib.Omega.{arith}
 
 shared-slice-read-wide : tie.Need-shared-slice-read-wide

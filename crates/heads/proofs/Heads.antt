@@ -10,7 +10,7 @@ use Rattle.slices.proofs.Cases.{pick-cases}
 use Prim.Native.Nat.{ℕ, _+_, _/_, _%_, _≤_}
 use native.Mathlib.Omega.{arith}
 use borrow.Author.Tests.{eq-eqb, ne-eqb}
-use Rattle.records.specs.Parse.{headLen, flag}
+use Rattle.heads.specs.Heads.{headLen, flag}
 
 sizes : (short named : Bool) → 2 + pick short 1 4 + pick named 1 0 ≡ pick short 3 6 + pick named 1 0
 sizes true named = refl

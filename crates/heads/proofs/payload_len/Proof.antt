@@ -1,10 +1,10 @@
 use borrow.Author.Needs.{needs}
-use Rattle.records.proofs.payload_len.Statement.{statement}
-use Rattle.records.proofs.payload_len.Tie as tie
+use Rattle.heads.proofs.payload_len.Statement.{statement}
+use Rattle.heads.proofs.payload_len.Tie as tie
 use mathlib.Core.Path.{refl}
 use borrow.Author.Tests.{eq-eqb, ne-eqb}
-use Rattle.records.specs.Parse.{payloadLen}
-use Rattle.records.proofs.Heads.{head-at}
+use Rattle.heads.specs.Heads.{payloadLen}
+use Rattle.heads.proofs.Heads.{head-at}
 use native.Mathlib.Omega.{arith}
 
 shared-slice-read-wide : tie.Need-shared-slice-read-wide
