@@ -32,9 +32,9 @@ use Rattle.walk.specs.declared.Stepped.{Stepped}
 use Rattle.walk.specs.Step.{startOf, left, shift, onParsed, stepOf}
 use Rattle.walk.specs.Walked.{walked}
 use Rattle.walk.proofs.Walks.{left-length}
-use Rattle.listing.specs.Text.{decimal}
+use Rattle.digits.specs.Text.{decimal}
 use Rattle.listing.specs.Listing.{recordLine, listed, ofMessage, listingOf, listRoom}
-use Rattle.listing.proofs.Texts.{decimal-one, decimal-two, decimal-four, decimal-most, type-most}
+use Rattle.digits.proofs.Texts.{decimal-one, decimal-two, decimal-four, decimal-most, type-most}
 use Rattle.listing.proofs.Lines.{record-length, ok-length, refused-length, listed-record, listed-end, listed-truncated, listed-chunked}
 
 pub record Found (s : List ℕ) (at end : ℕ) (r : Record) (next : ℕ) : Type 0 where

@@ -13,7 +13,7 @@ use Rattle.records.specs.Parse.{wholeOf, parseOf}
 use Rattle.pieces.specs.Parts.{partOf}
 use Rattle.walk.specs.Step.{stepOf}
 use Rattle.walk.specs.Walked.{walkedFrom}
-use Rattle.listing.specs.Text.{decimalF, decimal, hexOf, typeWord}
+use Rattle.digits.specs.Text.{decimalF, decimal, hexOf, typeWord}
 use Rattle.listing.specs.Listing.{recordLine, recordLines, okLine, refusedLine, listed, ofMessage, listingOf}
 
 -- the container of an image with an area of 8,184 bytes

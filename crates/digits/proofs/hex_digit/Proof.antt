@@ -1,6 +1,6 @@
 use borrow.Author.Needs.{needs}
-use Rattle.listing.proofs.hex_digit.Statement.{statement}
-use Rattle.listing.proofs.hex_digit.Tie as tie
+use Rattle.digits.proofs.hex_digit.Statement.{statement}
+use Rattle.digits.proofs.hex_digit.Tie as tie
 use borrow.Author.Tests.{lt-ltb, le-ltb}
 
 add-result : tie.Need-add-result

@@ -1,14 +1,14 @@
 use borrow.Author.Needs.{needs}
-use Rattle.listing.proofs.put_type.Statement.{statement}
-use Rattle.listing.proofs.put_type.Tie as tie
+use Rattle.digits.proofs.put_type.Statement.{statement}
+use Rattle.digits.proofs.put_type.Tie as tie
 use mathlib.Core.Path.{ap}
 use mathlib.Core.List.{List, _∷_, [], _++_}
 use Prim.Native.Nat.{ℕ}
 use lib.ListN.{length}
 use denote.Ref.{now}
 use Rattle.slices.proofs.Splice.{chain}
-use Rattle.listing.proofs.Texts.{type-empty, type-some, hex-length}
-use Rattle.listing.proofs.Writes.{wrote-as}
+use Rattle.digits.proofs.Texts.{type-empty, type-some, hex-length}
+use Rattle.digits.proofs.Writes.{wrote-as}
 use native.Mathlib.Omega.{arith}
 
 slice-aggregate-copy-to : tie.Need-slice-aggregate-copy-to

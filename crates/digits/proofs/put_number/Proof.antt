@@ -1,6 +1,6 @@
 use borrow.Author.Needs.{needs}
-use Rattle.listing.proofs.put_number.Statement.{statement}
-use Rattle.listing.proofs.put_number.Tie as tie
+use Rattle.digits.proofs.put_number.Statement.{statement}
+use Rattle.digits.proofs.put_number.Tie as tie
 use Rattle.slices.proofs.Splice.{chain}
 use native.Mathlib.Omega.{arith}
 

@@ -23,7 +23,7 @@ use lib.Seq.{take-suc}
 use lib.Dec.{ltb}
 use Rattle.slices.proofs.Cases.{lt-or-ge, pick-cases}
 use mathlib.Core.Logic.{⊎-elim}
-use Rattle.listing.specs.Text.{decimalF, decimal, hexDigit, hexOf, typeWord}
+use Rattle.digits.specs.Text.{decimalF, decimal, hexDigit, hexOf, typeWord}
 
 -- fuel above the number is as good as any other
 fuel : (f n g : ℕ) → n < f → n < g → decimalF f n ≡ decimalF g n

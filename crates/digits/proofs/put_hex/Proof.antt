@@ -1,5 +1,5 @@
-use Rattle.listing.proofs.put_hex.Statement.{statement}
-use Rattle.listing.proofs.put_hex.Tie as tie
+use Rattle.digits.proofs.put_hex.Statement.{statement}
+use Rattle.digits.proofs.put_hex.Tie as tie
 use mathlib.Core.Path.{_≡_, refl, ap, sym, _∙_}
 use mathlib.Core.List.{_∷_, []}
 use Prim.Native.Nat.{ℕ, _≤_, _<_, _-_, _*_, _+_}
@@ -8,9 +8,9 @@ use lib.Seq.{length-take-le, take-length}
 use denote.Ref.{now}
 use Rattle.slices.specs.Bytes.{Wrote}
 use Rattle.slices.proofs.Splice.{chain, splice-none}
-use Rattle.listing.specs.Text.{hexOf}
-use Rattle.listing.proofs.Texts.{hex-length, hex-more}
-use Rattle.listing.proofs.Writes.{wrote-as}
+use Rattle.digits.specs.Text.{hexOf}
+use Rattle.digits.proofs.Texts.{hex-length, hex-more}
+use Rattle.digits.proofs.Writes.{wrote-as}
 use native.Mathlib.Omega.{arith}
 
 abbrev Inv-loop : tie.InvT-loop

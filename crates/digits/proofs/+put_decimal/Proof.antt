@@ -1,20 +1,20 @@
 use Prim.Native.Nat.{ℕ, _<_}
 use borrow.Fn.Kinds.{In}
 use borrow.Fn.PlainCycle.{Measures, is, falls, and}
-use Rattle.listing.proofs.put_decimal.Reads as put-decimal
-use Rattle.listing.proofs.put_decimal.Kinds as put-decimal-kinds
-use Rattle.listing.proofs.+put_decimal.Lts-put_decimal as put-decimal-lts
+use Rattle.digits.proofs.put_decimal.Reads as put-decimal
+use Rattle.digits.proofs.put_decimal.Kinds as put-decimal-kinds
+use Rattle.digits.proofs.+put_decimal.Lts-put_decimal as put-decimal-lts
 use Rattle.slices.proofs.put.Reads as put-reads
-use Rattle.listing.proofs.+put_decimal.{statement}
-use Rattle.listing.proofs.+put_decimal.Tie.{close}
+use Rattle.digits.proofs.+put_decimal.{statement}
+use Rattle.digits.proofs.+put_decimal.Tie.{close}
 use Prim.Native.Nat.{_/_, _%_, _+_, _≤_}
 use mathlib.Core.Path.{ap}
 use mathlib.Core.List.{_∷_, []}
 use lib.ListN.{length, length-append}
 use Rattle.slices.proofs.Splice.{chain}
-use Rattle.listing.specs.Text.{decimal}
-use Rattle.listing.proofs.Texts.{decimal-small, decimal-more, decimal-some}
-use Rattle.listing.proofs.Writes.{wrote-as}
+use Rattle.digits.specs.Text.{decimal}
+use Rattle.digits.proofs.Texts.{decimal-small, decimal-more, decimal-some}
+use Rattle.digits.proofs.Writes.{wrote-as}
 use native.Mathlib.Omega.{arith}
 use borrow.Author.Needs.{needs}
 
