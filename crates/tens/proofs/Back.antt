@@ -9,7 +9,7 @@ use native.Mathlib.Omega.{arith}
 use Rattle.part.specs.declared.registers.Cycle.{Cycle}
 use Rattle.part.specs.declared.registers.Cycle.the-variants.{Nothing, Row, Byte}
 use Rattle.part.specs.declared.registers.Registers.{Registers}
-use Rattle.tile.specs.Tile.{flag, numberOf, cycleOf, kindOf, placeOf, sizeOf, registersOf, tileOf}
+use Rattle.tens.specs.Tens.{flag, numberOf, cycleOf, kindOf, placeOf, sizeOf, registersOf, tileOf}
 
 abbrev pub Byted : Cycle → Type 0
 Byted Nothing = Unit

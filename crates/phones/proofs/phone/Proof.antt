@@ -1,6 +1,6 @@
 use borrow.Author.Needs.{needs}
-use Rattle.power.proofs.phone.Statement.{statement}
-use Rattle.power.proofs.phone.Tie as tie
+use Rattle.phones.proofs.phone.Statement.{statement}
+use Rattle.phones.proofs.phone.Tie as tie
 use mathlib.Core.Path.{_≡_, ap, sym, _∙_}
 use mathlib.Core.Bool.{Bool, true, false, _&&_}
 use Prim.Native.Nat.{_+_}
@@ -12,7 +12,7 @@ use borrow.Author.Tests.{eq-eqb, ne-eqb, leb-true}
 use Rattle.scan.proofs.Blanks.{and-right}
 use Rattle.part.specs.Part.{withReported}
 use Rattle.part.specs.Power.{reached}
-use Rattle.power.proofs.Tests.{either}
+use Rattle.phones.proofs.Tests.{either}
 
 returns : tie.Need-returns
 returns c = (rw (ne-eqb _ 8192 (c .if1 .taken)), rw (ne-eqb _ 8192 (c .if1 .taken)))

@@ -1,4 +1,4 @@
--- The simulated part for C: its registers as ten numbers. Any ten numbers are a part's registers, so that nothing a caller lends is
+-- The registers of the simulated part as ten numbers. Any ten numbers are a part's registers, so that nothing a caller lends is
 -- refused: bytes are taken modulo 256, a flag is on where its number is not 0, and a cycle of another kind than 1 and 2 is none.
 --
 --   flag n                 == the number n as a flag; of false and true as a number: numberOf
@@ -6,7 +6,6 @@
 --   kindOf, placeOf, sizeOf == a cycle's three numbers
 --   registersOf t          == the registers that ten numbers are
 --   tileOf r               == the ten numbers of the registers r
---   acked a                == an answer's number: 1 acknowledged, 0 refused
 use mathlib.Core.Bool.{Bool, true, false, not}
 use mathlib.Core.List.{List, [], _∷_}
 use Prim.Native.Nat.{ℕ, _%_}
@@ -16,7 +15,6 @@ use Rattle.protocol.specs.Proc.{if_then_else_}
 use Rattle.part.specs.declared.registers.Cycle.{Cycle}
 use Rattle.part.specs.declared.registers.Cycle.the-variants.{Nothing, Row, Byte}
 use Rattle.part.specs.declared.registers.Registers.{Registers}
-use Rattle.simulated.specs.declared.Answer.{Answer}
 
 abbrev pub flag : ℕ → Bool
 flag n = not (eqb n 0)
@@ -59,6 +57,3 @@ abbrev pub tileOf : Registers → List ℕ
 tileOf r =
     r .gpo1 ∷ r .mngt ∷ r .cfg ∷ r .rf ∷ numberOf (r .session) ∷ numberOf (r .reported) ∷ r .busy
     ∷ kindOf (r .cycle) ∷ placeOf (r .cycle) ∷ sizeOf (r .cycle) ∷ []
-
-abbrev pub acked : Answer → ℕ
-acked a = numberOf (a .ack)

@@ -1,6 +1,6 @@
 use borrow.Author.Needs.{needs}
-use Rattle.tile.proofs.cycle_of.Statement.{statement}
-use Rattle.tile.proofs.cycle_of.Tie as tie
+use Rattle.tens.proofs.cycle_of.Statement.{statement}
+use Rattle.tens.proofs.cycle_of.Tie as tie
 use borrow.Author.Tests.{eq-eqb, ne-eqb}
 
 returns : tie.Need-returns

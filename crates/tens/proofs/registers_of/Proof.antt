@@ -1,6 +1,6 @@
 use borrow.Author.Needs.{needs}
-use Rattle.tile.proofs.registers_of.Statement.{statement}
-use Rattle.tile.proofs.registers_of.Tie as tie
+use Rattle.tens.proofs.registers_of.Statement.{statement}
+use Rattle.tens.proofs.registers_of.Tie as tie
 
 element-copy-out-t4 : tie.Need-element-copy-out-t4
 element-copy-out-t4 c = search needs

@@ -1,6 +1,6 @@
 use borrow.Author.Needs.{needs}
-use Rattle.tile.proofs.tile_of.Statement.{statement}
-use Rattle.tile.proofs.tile_of.Tie as tie
+use Rattle.tens.proofs.tile_of.Statement.{statement}
+use Rattle.tens.proofs.tile_of.Tie as tie
 
 cast-t3 : tie.Need-cast-t3
 cast-t3 c = search needs
