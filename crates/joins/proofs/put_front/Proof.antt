@@ -1,6 +1,6 @@
 use borrow.Author.Needs.{needs}
-use Rattle.parts.proofs.put_front.Statement.{statement}
-use Rattle.parts.proofs.put_front.Tie as tie
+use Rattle.joins.proofs.put_front.Statement.{statement}
+use Rattle.joins.proofs.put_front.Tie as tie
 use mathlib.Core.Path.{ap}
 use Prim.Native.Nat.{ℕ}
 use lib.ListN.{length}

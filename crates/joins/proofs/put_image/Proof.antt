@@ -1,12 +1,12 @@
 use borrow.Author.Needs.{needs}
-use Rattle.parts.proofs.put_image.Statement.{statement}
-use Rattle.parts.proofs.put_image.Tie as tie
+use Rattle.joins.proofs.put_image.Statement.{statement}
+use Rattle.joins.proofs.put_image.Tie as tie
 use Prim.Native.Nat.{_+_}
 use lib.ListN.{length}
 use denote.Ref.{now}
 use Rattle.slices.proofs.Splice.{chain}
 use Rattle.layout.proofs.Images.{front-length}
-use Rattle.parts.proofs.Pieces.{pieces}
+use Rattle.joins.proofs.Pieces.{pieces}
 use native.Mathlib.Omega.{arith}
 
 add-put-front : tie.Need-add-put-front
