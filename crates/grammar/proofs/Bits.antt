@@ -15,7 +15,7 @@ use lib.Dec.{eqb}
 use Rattle.slices.specs.Pick.{pick}
 use Rattle.slices.specs.Bytes.{be}
 use Rattle.layout.specs.Record.{header}
-use Rattle.records.specs.Parse.{flag}
+use Rattle.heads.specs.Heads.{flag}
 
 -- a flag as a digit, and what it is worth
 digit : Bool → ℕ

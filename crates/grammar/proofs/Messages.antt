@@ -17,7 +17,8 @@ use Rattle.layout.specs.Record.{Fields, recordBytes}
 use Rattle.records.specs.declared.Record.{Record}
 use Rattle.records.specs.declared.Parsed.{Parsed}
 use Rattle.records.specs.declared.Parsed.the-variants as parsed
-use Rattle.records.specs.Parse.{flag, parseOf, numberOf}
+use Rattle.heads.specs.Heads.{flag}
+use Rattle.records.specs.Parse.{parseOf, numberOf}
 use Rattle.grammar.specs.Records.{Bytes, Allowed, Begins, placesOf}
 use Rattle.grammar.proofs.RecordsComplete.{complete, bytes-length}
 use Rattle.records.proofs.Records.{record-there}

@@ -19,11 +19,12 @@ use Rattle.slices.proofs.Numbers.{be-length}
 use Rattle.layout.specs.Record.{Fields, header, recordHead, recordBytes}
 use Rattle.records.specs.declared.Record.{Record}
 use Rattle.records.specs.declared.Parsed.the-variants as parsed
-use Rattle.records.specs.Parse.{flag, headLen, payloadLen, idLen, placesIn, wholeOf, parseOf, endOf}
+use Rattle.heads.specs.Heads.{flag, headLen, payloadLen, idLen}
+use Rattle.records.specs.Parse.{placesIn, wholeOf, parseOf, endOf}
 use Rattle.pieces.specs.Parts.{partOf, kindOf, idOf, payloadOf}
 use Rattle.grammar.specs.Records.{Allowed, headOf, placesOf, Begins, RecordAt}
 use Rattle.grammar.proofs.Bits.{header-chunk, header-last, header-short, header-named, header-format, four-read}
-use Rattle.records.proofs.Heads.{head-at}
+use Rattle.heads.proofs.Heads.{head-at}
 use Rattle.pieces.proofs.Parts.{part-inside}
 
 -- bytes that say a record which is all there

@@ -21,7 +21,8 @@ use Rattle.layout.specs.Record.{Fields, recordBytes}
 use Rattle.records.specs.declared.Record.{Record}
 use Rattle.records.specs.declared.Parsed.{Parsed}
 use Rattle.records.specs.declared.Parsed.the-variants as parsed
-use Rattle.records.specs.Parse.{flag, headLen, idLen, payloadLen, wholeOf, parseOf, numberOf}
+use Rattle.heads.specs.Heads.{flag, headLen, idLen, payloadLen}
+use Rattle.records.specs.Parse.{wholeOf, parseOf, numberOf}
 use Rattle.pieces.specs.Parts.{kindOf, idOf, payloadOf, oneByte, isOf}
 use Rattle.grammar.specs.Records.{Bytes, Begins, RecordAt, placesOf}
 use Rattle.grammar.proofs.RecordsComplete.{complete, kind-there, id-there, payload-there}

@@ -16,10 +16,11 @@ use Rattle.slices.proofs.Cases.{pick-cases, pick-else}
 use Rattle.layout.specs.Record.{Fields, recordHead}
 use Rattle.records.specs.declared.Record.{Record}
 use Rattle.records.specs.declared.Parsed.the-variants as parsed
-use Rattle.records.specs.Parse.{flag, headLen, payloadLen, idLen, placesIn, wholeOf, parseOf}
+use Rattle.heads.specs.Heads.{flag, headLen, payloadLen, idLen}
+use Rattle.records.specs.Parse.{placesIn, wholeOf, parseOf}
 use Rattle.grammar.specs.Records.{Bytes, Allowed, headOf, placesOf, Begins, RecordAt}
 use Rattle.grammar.proofs.Bits.{header-read, be-one, be-four}
-use Rattle.records.proofs.Heads.{head-at}
+use Rattle.heads.proofs.Heads.{head-at}
 use Rattle.grammar.proofs.RecordsComplete.{split, record-at}
 
 -- n elements of s from k on, one by one

@@ -14,7 +14,7 @@ use Prim.Native.Nat.{ℕ, _+_, _<_}
 use lib.ListN.{length, getD}
 use Rattle.layout.specs.Record.{Fields, recordBytes}
 use Rattle.records.specs.declared.Record.{Record}
-use Rattle.records.specs.Parse.{flag}
+use Rattle.heads.specs.Heads.{flag}
 use Rattle.grammar.specs.Records.{Allowed, Begins, placesOf}
 use Rattle.walk.specs.Step.{shift}
 use Rattle.walk.specs.Walked.{Ending, ended, truncated, chunked, Walked, listing}

@@ -6,11 +6,11 @@ ghost use Rattle.layout.specs.Record.{whole};
 ghost use Rattle.layout.specs.Image.{image, textImage, uriImage};
 ghost use Rattle.judging.specs.Judge.{verdict, checks, encoding, answer, after};
 ghost use Rattle.image.specs.Builds.{textVerdict, uriVerdict};
+use joins::put_image;
 use judging::Built;
 use judging::judge;
 use layout::refusal::Refusal;
 use layout::refusal::Verdict;
-use parts::put_image;
 use utf8::is_utf8;
 
 // A record of a well-known type whose payload is `head` and then `text`, which must be UTF-8.

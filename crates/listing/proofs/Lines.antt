@@ -28,9 +28,9 @@ use Rattle.walk.specs.declared.Entry.the-variants as entry
 use Rattle.walk.specs.Step.{stepOf}
 use Rattle.walk.specs.Walked.{Walked, walked, onStep}
 use Rattle.walk.proofs.Walks.{walked-step}
-use Rattle.listing.specs.Text.{decimal, typeWord}
+use Rattle.digits.specs.Text.{decimal, typeWord}
 use Rattle.listing.specs.Listing.{recordLine, recordLines, okLine, refusedLine, lastLine, listed}
-use Rattle.listing.proofs.Writes.{wrote-as}
+use Rattle.digits.proofs.Writes.{wrote-as}
 
 -- a word, and the byte after it
 abbrev ends : List ℕ → ℕ → List ℕ

@@ -21,9 +21,10 @@ use Rattle.blocks.specs.Read.{readOf, numberOf}
 use Rattle.records.specs.declared.Record.{Record}
 use Rattle.records.specs.declared.Parsed.{Parsed}
 use Rattle.records.specs.declared.Parsed.the-variants as parsed
-use Rattle.records.specs.Parse.{flag, headLen, payloadLen, idLen, wholeOf, parseOf}
+use Rattle.heads.specs.Heads.{flag, headLen, payloadLen, idLen}
+use Rattle.records.specs.Parse.{wholeOf, parseOf}
 use Rattle.pieces.specs.Parts.{partOf, kindOf}
-use Rattle.records.proofs.Heads.{head-least}
+use Rattle.heads.proofs.Heads.{head-least}
 use Rattle.records.proofs.Records.{record-there}
 use Rattle.walk.specs.declared.Entry.{Entry}
 use Rattle.walk.specs.declared.Entry.the-variants as entry
@@ -31,9 +32,9 @@ use Rattle.walk.specs.declared.Stepped.{Stepped}
 use Rattle.walk.specs.Step.{startOf, left, shift, onParsed, stepOf}
 use Rattle.walk.specs.Walked.{walked}
 use Rattle.walk.proofs.Walks.{left-length}
-use Rattle.listing.specs.Text.{decimal}
+use Rattle.digits.specs.Text.{decimal}
 use Rattle.listing.specs.Listing.{recordLine, listed, ofMessage, listingOf, listRoom}
-use Rattle.listing.proofs.Texts.{decimal-one, decimal-two, decimal-four, decimal-most, type-most}
+use Rattle.digits.proofs.Texts.{decimal-one, decimal-two, decimal-four, decimal-most, type-most}
 use Rattle.listing.proofs.Lines.{record-length, ok-length, refused-length, listed-record, listed-end, listed-truncated, listed-chunked}
 
 pub record Found (s : List ℕ) (at end : ℕ) (r : Record) (next : ℕ) : Type 0 where

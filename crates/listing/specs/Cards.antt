@@ -8,11 +8,12 @@ use Prim.Native.Nat.{ℕ}
 use Rattle.slices.specs.Walk.{walk, walkF}
 use Rattle.tlv.specs.Blocks.{tlvLength, bodyOf, blockOf}
 use Rattle.blocks.specs.Read.{messageFrom, containerLen, readOf}
-use Rattle.records.specs.Parse.{headLen, payloadLen, idLen, wholeOf, parseOf}
+use Rattle.heads.specs.Heads.{headLen, payloadLen, idLen}
+use Rattle.records.specs.Parse.{wholeOf, parseOf}
 use Rattle.pieces.specs.Parts.{partOf}
 use Rattle.walk.specs.Step.{stepOf}
 use Rattle.walk.specs.Walked.{walkedFrom}
-use Rattle.listing.specs.Text.{decimalF, decimal, hexOf, typeWord}
+use Rattle.digits.specs.Text.{decimalF, decimal, hexOf, typeWord}
 use Rattle.listing.specs.Listing.{recordLine, recordLines, okLine, refusedLine, listed, ofMessage, listingOf}
 
 -- the container of an image with an area of 8,184 bytes

@@ -24,7 +24,7 @@ use Rattle.records.specs.declared.Record.{Record}
 use Rattle.pieces.specs.Parts.{kindOf}
 use Rattle.walk.specs.Step.{startOf}
 use Rattle.walk.specs.Walked.{Ending, ended, truncated, chunked, Walked, endingNumber, walked}
-use Rattle.listing.specs.Text.{decimal, typeWord, line}
+use Rattle.digits.specs.Text.{decimal, typeWord, line}
 
 unfoldable pub recordLine : ℕ → Record → List ℕ → List ℕ
 recordLine n r image =

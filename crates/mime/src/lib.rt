@@ -4,10 +4,10 @@ ghost use lib.ListN.{length};
 ghost use Rattle.layout.specs.Image.{mimeImage};
 ghost use Rattle.judging.specs.Judge.{answer, after};
 ghost use Rattle.mime.specs.Mime.{mimeVerdict};
+use joins::put_image;
 use judging::Built;
 use judging::judge;
 use layout::refusal::Verdict;
-use parts::put_image;
 
 // The image of a payload with a MIME type. The payload is bytes, whatever they are.
 pub fn mime_image(out: &mut [u8], area: usize, mime: &[u8], payload: &[u8]) -> Built

@@ -19,7 +19,4 @@ pub mod Ordered
 pub mod Exact
 pub mod Opened
 pub mod Witnesses
-pub mod Earlys
-pub mod Slips
 pub mod Theorems
-pub mod ThrownOut

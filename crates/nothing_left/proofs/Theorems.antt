@@ -1,6 +1,6 @@
 -- Demand 3: nothing is left behind. Each claim is over every run of the calls of crate `protocol` on the part of crate `part`: whatever
--- the cycles take, whatever phones write while RF is on, whatever a cut leaves. What the words mean is in specs/. ThrownOut has wrong
--- programs for which they fail.
+-- the cycles take, whatever phones write while RF is on, whatever a cut leaves. What the words mean is in specs/. Crate `thrown_out` has
+-- wrong programs for which they fail.
 use mathlib.Core.Path.{_≡_}
 use mathlib.Core.Bool.{true, false}
 use mathlib.Core.Logic.{_⊎_}

@@ -1,4 +1,4 @@
--- The claims of demand 3, of any program. proofs/Theorems has them for the program of crate `protocol`, proofs/ThrownOut for each program of
+-- The claims of demand 3, of any program. proofs/Theorems has them for the program of crate `protocol`, crate `thrown_out` for each program of
 -- Slips one that fails. Source: document 01, 'Session order'.
 --
 --   NothingLeft t            == `begin` after any power-up, with the mark at the whole part, ends Clean

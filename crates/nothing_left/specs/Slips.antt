@@ -1,4 +1,4 @@
--- Programs that are wrong in one thing. Each is `callOf` but for what its line names. proofs/ThrownOut has for each a claim of demand 3
+-- Programs that are wrong in one thing. Each is `callOf` but for what its line names. Crate `thrown_out` has for each a claim of demand 3
 -- that it breaks; as `treeOf` each is refused (must-fail/). Source: document 01, 'Slips we have seen' and 'What a reader may rely on'.
 --
 --   callsBy p w r s b g f  == the thirteen calls, with the given `prepare`, `write`, `read_whole`, `scrub`, `begin`, `go_live` and `finish`

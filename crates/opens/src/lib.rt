@@ -6,11 +6,11 @@ ghost use lib.ListN.{length};
 ghost use Rattle.layout.specs.Image.{front};
 ghost use Rattle.judging.specs.Judge.{verdict, checks, answer, after};
 ghost use Rattle.opens.specs.Opens.{openBytes};
+use joins::put_front;
 use judging::Built;
 use judging::judge;
 use layout::lengths::sat_add;
 use layout::refusal::Verdict;
-use parts::put_front;
 use slices::copy_to;
 
 // The front of a record whose payload is `head` and `rest_len` bytes more, and `head`.

@@ -1,19 +1,16 @@
-// Writes the parts of an image into a lent buffer, each once: container, message head, record head, payload, terminator.
+// Writes the parts of an image into a lent buffer: container, message head, record head.
 // Whoever calls has judged that they fit; every byte after the place that is returned keeps what it was.
 ghost use mathlib.Core.Path.{_≡_};
-ghost use mathlib.Core.List.{_++_};
 ghost use mathlib.Core.Bool.{true, false};
 ghost use Prim.Native.Nat.{_+_, _≤_, _<_, _^_};
 ghost use lib.ListN.{length};
 ghost use lib.Dec.{leb};
 ghost use Rattle.slices.specs.Bytes.{Wrote};
-ghost use Rattle.layout.specs.Lengths.{recordLen, imageLen};
+ghost use Rattle.layout.specs.Lengths.{recordLen};
 ghost use Rattle.layout.specs.Container.{container};
 ghost use Rattle.layout.specs.Block.{messageHead};
-ghost use Rattle.layout.specs.Record.{recordHead, whole};
-ghost use Rattle.layout.specs.Image.{front, image};
+ghost use Rattle.layout.specs.Record.{recordHead};
 use layout::lengths::head_len;
-use slices::copy_long;
 use slices::copy_to;
 use slices::put;
 use slices::put16;
@@ -62,34 +59,4 @@ pub fn record_len(kind_len: usize, payload: usize) -> usize
     ensures { λ r. ⌜ r ≡ recordLen «kind_len» payload ⌝ }
 {
     head_len(payload) + kind_len + payload
-}
-
-// Everything before the payload.
-pub fn put_front(out: &mut [u8], area: usize, format: u8, kind: &[u8], payload: usize) -> usize
-    requires { ⌜ (format < 8) × (length (now kind) ≤ 255) × (length (front area format (now kind) payload) + payload < 2 ^ 64) × (length (front area format (now kind) payload) ≤ length (now out)) ⌝ }
-    ensures { λ r. ⌜ Wrote (now (out .entry)) 0 (front area format (now (kind .entry)) payload) (now (out .exit)) r ⌝ }
-{
-    let a = put_container(out, area);
-    let n = kind.len();
-    let b = put_message_head(out, a, record_len(n, payload));
-    let c = put_record_head(out, b, format, n as u8, payload);
-    copy_to(out, c, kind)
-}
-
-// A whole image: the front, the payload in its two pieces (what its type puts first, and the rest), the terminator.
-pub fn put_image(
-    out: &mut [u8],
-    area: usize,
-    format: u8,
-    kind: &[u8],
-    head: &[u8],
-    rest: &[u8],
-) -> usize
-    requires { ⌜ (format < 8) × (length (now kind) ≤ 255) × (imageLen (length (now kind)) (length (now head) + length (now rest)) ≤ length (now out)) ⌝ }
-    ensures { λ r. ⌜ Wrote (now (out .entry)) 0 (image area (whole format (now (kind .entry)) (now (head .entry) ++ now (rest .entry)))) (now (out .exit)) r ⌝ }
-{
-    let a = put_front(out, area, format, kind, head.len() + rest.len());
-    let b = copy_to(out, a, head);
-    let c = copy_long(out, b, rest);
-    put(out, c, 0xFE)
 }

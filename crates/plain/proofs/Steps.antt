@@ -12,7 +12,8 @@ use Rattle.slices.proofs.Cases.{pick-cases}
 use Rattle.records.specs.declared.Record.{Record}
 use Rattle.records.specs.declared.Parsed.{Parsed}
 use Rattle.records.specs.declared.Parsed.the-variants as parsed
-use Rattle.records.specs.Parse.{flag, headLen, idLen, payloadLen, wholeOf, parseOf}
+use Rattle.heads.specs.Heads.{flag, headLen, idLen, payloadLen}
+use Rattle.records.specs.Parse.{wholeOf, parseOf}
 use Rattle.walk.specs.declared.Cursor.{Cursor}
 use Rattle.walk.specs.declared.Entry.{Entry}
 use Rattle.walk.specs.declared.Entry.the-variants as entry

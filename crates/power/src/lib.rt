@@ -1,15 +1,14 @@
-// What passes in the simulated part beside the bus: time, a phone's visit, a power cut.
+// What time and a power cut do to the simulated part.
 ghost use mathlib.Core.Path.{_≡_};
 ghost use Prim.Native.Nat.{_-_};
 ghost use lib.ListN.{length};
 ghost use Rattle.part.specs.Part.{withBusy};
 ghost use Rattle.part.specs.Power.{powered, tornByte, tornRow};
-ghost use Rattle.simulated.specs.Simulated.{phoned, memoryPhoned, poweredUp, memoryLeft};
+ghost use Rattle.simulated.specs.Simulated.{poweredUp, memoryLeft};
 use part::registers::Cycle;
 use part::registers::Registers;
 use registers::bytes::inside;
 use registers::changed::left;
-use registers::changed::noted;
 use registers::changed::with_byte;
 use slices::copy_to;
 use slices::front;
@@ -23,22 +22,6 @@ pub fn wait(r: Registers, ms: usize) -> Registers
         left(r, 0)
     } else {
         left(r, (busy - ms) as u8)
-    }
-}
-
-// A phone writes `bytes` from `at` on. With RF off, or past the memory, nothing changes.
-pub fn phone(r: Registers, memory: &mut [u8], at: usize, bytes: &[u8]) -> Registers
-    ensures { λ s. ⌜ s ≡ phoned at (length (now (bytes .entry))) (now (memory .entry)) r ⌝ }
-    ensures { λ s. ⌜ now (memory .exit) ≡ memoryPhoned at (now (bytes .entry)) (now (memory .entry)) r ⌝ }
-{
-    if memory.len() != 8192 {
-        return r;
-    }
-    if (r.rf == 0) & inside(at, bytes.len()) {
-        copy_to(memory, at, bytes);
-        noted(r, (r.gpo1 == 0x85) | r.reported)
-    } else {
-        r
     }
 }
 

@@ -16,8 +16,9 @@ use Rattle.slices.proofs.Cases.{pick-cases}
 use Rattle.records.specs.declared.Record.{Record}
 use Rattle.records.specs.declared.Parsed.{Parsed}
 use Rattle.records.specs.declared.Parsed.the-variants as parsed
-use Rattle.records.specs.Parse.{flag, headLen, idLen, payloadLen, wholeOf, parseOf, endOf}
-use Rattle.records.proofs.Heads.{head-at, head-least, short-no-id}
+use Rattle.heads.specs.Heads.{flag, headLen, idLen, payloadLen}
+use Rattle.records.specs.Parse.{wholeOf, parseOf, endOf}
+use Rattle.heads.proofs.Heads.{head-at, head-least, short-no-id}
 
 abbrev Sound : List ℕ → Parsed → Type 0
 Sound s (parsed.Record r) = (2 < endOf r) × (endOf r ≤ length s)

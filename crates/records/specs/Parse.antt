@@ -1,9 +1,6 @@
 -- One record off the front of a message.
 -- Document 01, 'Bytes from a phone'; NFC Forum NDEF 1.0, section 3.2 (record layout), 3.2.1 to 3.2.12 (its fields).
 --
---   flag bit h                == the header h has the flag `bit`: chunk 20, last 40, short 10, id 08 (3.2.1 to 3.2.5)
---   headLen h                 == bytes before the type name: header, type length, payload length in one byte or four, id length if any
---   payloadLen s, idLen s     == the lengths that the head of s says, high byte first; no id, 0
 --   placesIn s h k i p        == the places of a record whose type name stands at k, with i bytes of id and p of payload
 --   wholeOf s h k i p         == that record, or Truncated where it runs past s
 --   parseOf s                 == the record at the front of s. The chunk flag is judged first; nothing, a head or a part that is not
@@ -11,28 +8,14 @@
 --   endOf r                   == the place after the record r
 --   numberOf p                == document 01's number: 13, 14, and 0 for a record
 use mathlib.Core.List.{List}
-use mathlib.Core.Bool.{Bool}
-use Prim.Native.Nat.{ℕ, _+_, _*_, _/_, _%_}
+use Prim.Native.Nat.{ℕ, _+_, _%_}
 use lib.ListN.{length, getD}
-use lib.Dec.{ltb, eqb}
+use lib.Dec.{ltb}
 use Rattle.slices.specs.Pick.{pick}
+use Rattle.heads.specs.Heads.{flag, headLen, payloadLen, idLen}
 use Rattle.records.specs.declared.Record.{Record}
 use Rattle.records.specs.declared.Parsed.{Parsed}
 use Rattle.records.specs.declared.Parsed.the-variants as parsed
-
-abbrev pub flag : ℕ → ℕ → Bool
-flag bit h = eqb (h / bit % 2) 1
-
-unfoldable pub headLen : ℕ → ℕ
-headLen h = 2 + pick (flag 0x10 h) 1 4 + pick (flag 0x08 h) 1 0
-
-unfoldable pub payloadLen : List ℕ → ℕ
-payloadLen s =
-    pick (flag 0x10 (getD s 0 0)) (getD s 2 0)
-    (((getD s 2 0 * 256 + getD s 3 0) * 256 + getD s 4 0) * 256 + getD s 5 0)
-
-unfoldable pub idLen : List ℕ → ℕ
-idLen s = pick (flag 0x08 (getD s 0 0)) (getD s (pick (flag 0x10 (getD s 0 0)) 3 6) 0) 0
 
 abbrev pub placesIn : List ℕ → ℕ → ℕ → ℕ → ℕ → Record
 placesIn s h k i p =

@@ -1,8 +1,12 @@
 // One record of a message: where its parts stand.
 ghost use mathlib.Core.Path.{_≡_};
-ghost use Prim.Native.Nat.{_+_, _≤_, _<_, _^_};
-ghost use lib.ListN.{length, getD};
-ghost use Rattle.records.specs.Parse.{headLen, payloadLen, idLen, wholeOf, parseOf, numberOf};
+ghost use Prim.Native.Nat.{_≤_, _<_, _^_};
+ghost use lib.ListN.{length};
+ghost use Rattle.records.specs.Parse.{wholeOf, parseOf, numberOf};
+use heads::head_len;
+use heads::id_len;
+use heads::payload_len;
+use heads::wide;
 
 // A record by its places: the type name stands at `kind`, the id right after it, then the payload.
 pub struct Record {
@@ -32,58 +36,6 @@ pub fn number(p: Parsed) -> u8
         Parsed::Truncated => 13,
         Parsed::Chunked => 14,
     }
-}
-
-// A byte as a number.
-fn wide(x: u8) -> usize
-    ensures { λ r. ⌜ r ≡ x ⌝ }
-    ensures { λ r. ⌜ r < 256 ⌝ }
-{
-    x as usize
-}
-
-// Bytes before the type name, by the header.
-fn head_len(h: u8) -> usize
-    ensures { λ r. ⌜ r ≡ headLen h ⌝ }
-    ensures { λ r. ⌜ r ≤ 7 ⌝ }
-{
-    if h / 16 % 2 == 1 {
-        if h / 8 % 2 == 1 {
-            return 4;
-        }
-        return 3;
-    }
-    if h / 8 % 2 == 1 {
-        return 7;
-    }
-    6
-}
-
-// The payload's length: one byte, or four, high byte first.
-fn payload_len(s: &[u8], h: u8) -> usize
-    requires { ⌜ (h ≡ getD (now s) 0 0) × (headLen h ≤ length (now s)) ⌝ }
-    ensures { λ r. ⌜ r ≡ payloadLen (now (s .entry)) ⌝ }
-    ensures { λ r. ⌜ r < 2 ^ 32 ⌝ }
-{
-    if h / 16 % 2 == 1 {
-        return wide(s[2]);
-    }
-    ((wide(s[2]) * 256 + wide(s[3])) * 256 + wide(s[4])) * 256 + wide(s[5])
-}
-
-// The id's length, after the payload's; 0 where the header announces no id.
-fn id_len(s: &[u8], h: u8) -> usize
-    requires { ⌜ (h ≡ getD (now s) 0 0) × (headLen h ≤ length (now s)) ⌝ }
-    ensures { λ r. ⌜ r ≡ idLen (now (s .entry)) ⌝ }
-    ensures { λ r. ⌜ r < 256 ⌝ }
-{
-    if h / 8 % 2 == 1 {
-        if h / 16 % 2 == 1 {
-            return wide(s[3]);
-        }
-        return wide(s[6]);
-    }
-    0
 }
 
 // The record, once its lengths are known: 13 where its parts run past the bytes.

@@ -31,7 +31,7 @@ pub fn visit(b: Bench, memory: &mut Memory) -> Bench {
     let n = chance::below(y, 65) as usize;
     visited(
         b,
-        power::phone(r, memory, at, front(&bytes, n)),
+        phones::phone(r, memory, at, front(&bytes, n)),
         chance::next(y),
     )
 }

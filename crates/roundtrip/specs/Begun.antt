@@ -15,7 +15,7 @@ use Rattle.layout.specs.Record.{whole}
 use Rattle.layout.specs.Block.{terminator}
 use Rattle.layout.specs.Image.{front, image}
 use Rattle.layout.proofs.Images.{front-length}
-use Rattle.parts.proofs.Pieces.{pieces}
+use Rattle.joins.proofs.Pieces.{pieces}
 use Rattle.layout.specs.declared.refusal.Verdict.the-variants.{Fits}
 use Rattle.judging.specs.Judge.{after}
 

@@ -19,7 +19,8 @@ use Rattle.layout.specs.declared.refusal.Refusal.the-variants.{TooLong, RecordT
 use Rattle.blocks.specs.declared.Message.the-variants.{At, NoContainer, NoMessage, Truncated}
 use Rattle.tlv.specs.Blocks.{tlvLength, bodyOf, blockOf}
 use Rattle.blocks.specs.Read.{messageFrom, containerLen, readOf}
-use Rattle.records.specs.Parse.{headLen, payloadLen, idLen, wholeOf, parseOf}
+use Rattle.heads.specs.Heads.{headLen, payloadLen, idLen}
+use Rattle.records.specs.Parse.{wholeOf, parseOf}
 use Rattle.walk.specs.Step.{stepOf}
 use Rattle.walk.specs.Walked.{ended, chunked, listing, walkedFrom, walked}
 use Rattle.judging.specs.Judge.{verdict, checks}

@@ -1,6 +1,7 @@
 // The simulated part: it takes every transfer and answers what the definition says. Its memory and its identification are lent; where
 // one of them is not of the part's size, it refuses everything and changes nothing. What is left open there comes from the caller: how
-// long a cycle takes, what a phone writes, what a cut leaves. Here it takes a write; `shows` has the reads, `power` time, phones and cuts.
+// long a cycle takes, what a phone writes, what a cut leaves. Here it takes a write; `shows` has the reads, `power` time and cuts, `phones` a
+// phone's visit.
 ghost use mathlib.Core.Path.{_≡_};
 ghost use lib.ListN.{length, drop};
 ghost use Rattle.part.specs.Orders.{stored};

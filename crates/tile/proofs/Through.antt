@@ -5,7 +5,7 @@ use mathlib.Core.Path.{_≡_, ap, _∙_}
 use mathlib.Core.List.{List}
 use Prim.Native.Nat.{ℕ}
 use Rattle.part.specs.declared.registers.Registers.{Registers}
-use Rattle.tile.specs.Tile.{registersOf}
+use Rattle.tens.specs.Tens.{registersOf}
 
 pub through :
     {A B : Type 0} (g : A → B) (f : Registers → A) (t : List ℕ) {r : Registers} {a : A} {b : B}

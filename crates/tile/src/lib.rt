@@ -5,99 +5,19 @@ ghost use Prim.Native.Nat.{_-_};
 ghost use lib.ListN.{length};
 ghost use Rattle.part.specs.Part.{withBusy};
 ghost use Rattle.simulated.specs.Simulated.{wrote, memoryWrote, didRead, outRead, phoned, memoryPhoned, poweredUp, memoryLeft};
-ghost use Rattle.tile.specs.Tile.{flag, numberOf, cycleOf, kindOf, placeOf, sizeOf, registersOf, tileOf, acked};
-use part::registers::Cycle;
-use part::registers::Registers;
+ghost use Rattle.tens.specs.Tens.{flag, numberOf, registersOf, tileOf};
+ghost use Rattle.tile.specs.Acked.{acked};
+use tens::registers_of;
+use tens::tile_of;
 
 // GPO1, RF_MNGT, I2C_CFG, RF_MNGT_Dyn; session open, write reported; milliseconds left of the cycle; its kind, place, and size or old
 // byte.
 pub type Tile = [usize; 10];
 
-fn number_of(b: bool) -> usize
-    ensures { λ r. ⌜ r ≡ numberOf b ⌝ }
-{
-    if b { 1 } else { 0 }
-}
-
 fn ack_of(b: bool) -> u32
     ensures { λ r. ⌜ r ≡ numberOf b ⌝ }
 {
     if b { 1 } else { 0 }
-}
-
-fn cycle_of(kind: usize, at: usize, n: usize) -> Cycle
-    ensures { λ k. ⌜ k ≡ cycleOf kind at n ⌝ }
-{
-    if kind == 1 {
-        return Cycle::Row(at, n);
-    }
-    if kind == 2 {
-        return Cycle::Byte(at, (n % 256) as u8);
-    }
-    Cycle::Nothing
-}
-
-fn kind_of(k: Cycle) -> usize
-    ensures { λ n. ⌜ n ≡ kindOf k ⌝ }
-{
-    match k {
-        Cycle::Nothing => 0,
-        Cycle::Row(_, _) => 1,
-        Cycle::Byte(_, _) => 2,
-    }
-}
-
-fn place_of(k: Cycle) -> usize
-    ensures { λ n. ⌜ n ≡ placeOf k ⌝ }
-{
-    match k {
-        Cycle::Nothing => 0,
-        Cycle::Row(at, _) => at,
-        Cycle::Byte(at, _) => at,
-    }
-}
-
-fn size_of(k: Cycle) -> usize
-    ensures { λ n. ⌜ n ≡ sizeOf k ⌝ }
-{
-    match k {
-        Cycle::Nothing => 0,
-        Cycle::Row(_, n) => n,
-        Cycle::Byte(_, v) => v as usize,
-    }
-}
-
-fn registers_of(t: &Tile) -> Registers
-    ensures { λ r. ⌜ r ≡ registersOf (now (t .entry)) ⌝ }
-{
-    Registers {
-        gpo1: (t[0] % 256) as u8,
-        mngt: (t[1] % 256) as u8,
-        cfg: (t[2] % 256) as u8,
-        rf: (t[3] % 256) as u8,
-        session: t[4] != 0,
-        reported: t[5] != 0,
-        busy: (t[6] % 256) as u8,
-        cycle: cycle_of(t[7], t[8], t[9]),
-    }
-}
-
-fn tile_of(r: Registers) -> Tile
-    ensures { λ t. ⌜ t ≡ tileOf r ⌝ }
-{
-    let k = r.cycle;
-    [
-        r.gpo1 as usize,
-        r.mngt as usize,
-        r.cfg as usize,
-        r.rf as usize,
-        number_of(r.session),
-        number_of(r.reported),
-        r.busy as usize,
-        kind_of(k),
-        place_of(k),
-        size_of(k),
-    ]
 }
 
 // A write of the bytes `sent` to the address `dev`, whose cycle takes `ms` milliseconds, 99 at most: 1 acknowledged, 0 refused.
@@ -153,7 +73,7 @@ pub extern "C" fn skp_tile_phone(tile: &mut Tile, memory: &mut [u8], at: usize, 
     ensures { λ _. ⌜ now (tile .exit) ≡ tileOf (phoned at (length (now (bytes .entry))) (now (memory .entry)) (registersOf (now (tile .entry)))) ⌝ }
     ensures { λ _. ⌜ now (memory .exit) ≡ memoryPhoned at (now (bytes .entry)) (now (memory .entry)) (registersOf (now (tile .entry))) ⌝ }
 {
-    *tile = tile_of(power::phone(registers_of(tile), memory, at, bytes));
+    *tile = tile_of(phones::phone(registers_of(tile), memory, at, bytes));
 }
 
 // A cut, and power-up. Inside a cycle it leaves `bytes` of a row write, and the old system byte where `old` is not 0.

@@ -7,8 +7,8 @@ use denote.Ref.{now}
 use Rattle.listing.proofs.Room.{listing-fits}
 use Rattle.listing.proofs.Lines.{refused-length}
 use Rattle.listing.proofs.Listings.{too-long, short-enough, list-none, list-done}
-use Rattle.listing.proofs.Texts.{decimal-two}
-use Rattle.listing.proofs.Writes.{wrote-as}
+use Rattle.digits.proofs.Texts.{decimal-two}
+use Rattle.digits.proofs.Writes.{wrote-as}
 use native.Mathlib.Omega.{arith}
 
 returns : tie.Need-returns

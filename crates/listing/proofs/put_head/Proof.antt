@@ -6,8 +6,8 @@ use mathlib.Core.List.{_∷_, [], _++_}
 use Prim.Native.Nat.{ℕ}
 use lib.ListN.{length}
 use Rattle.slices.proofs.Splice.{chain}
-use Rattle.listing.specs.Text.{decimal}
-use Rattle.listing.proofs.Writes.{wrote-as, word-place}
+use Rattle.digits.specs.Text.{decimal}
+use Rattle.digits.proofs.Writes.{wrote-as, word-place}
 use native.Mathlib.Omega.{arith}
 
 put-number-requires : tie.Need-put-number-requires

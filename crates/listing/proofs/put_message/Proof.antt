@@ -5,7 +5,7 @@ use mathlib.Core.Path.{ap}
 use lib.ListN.{length}
 use denote.Ref.{now}
 use Rattle.listing.proofs.Listings.{message-listed, message-refused}
-use Rattle.listing.proofs.Writes.{wrote-as}
+use Rattle.digits.proofs.Writes.{wrote-as}
 use native.Mathlib.Omega.{arith}
 
 number-requires : tie.Need-number-requires

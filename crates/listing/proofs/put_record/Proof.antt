@@ -9,9 +9,9 @@ use denote.Ref.{now}
 use Rattle.slices.specs.Pick.{pick}
 use Rattle.slices.proofs.Splice.{chain}
 use Rattle.pieces.specs.Parts.{kindOf}
-use Rattle.listing.specs.Text.{decimal, typeWord}
+use Rattle.digits.specs.Text.{decimal, typeWord}
 use Rattle.listing.proofs.Lines.{record-length, record-pieces, head-length}
-use Rattle.listing.proofs.Writes.{wrote-as, word-place}
+use Rattle.digits.proofs.Writes.{wrote-as, word-place}
 use native.Mathlib.Omega.{arith}
 
 -- the place after the first three words

@@ -6,8 +6,9 @@ use Prim.Native.Nat.{_<_}
 use lib.ListN.{length, getD}
 use denote.Ref.{now}
 use borrow.Author.Tests.{eq-eqb, ne-eqb, lt-ltb}
-use Rattle.records.specs.Parse.{headLen, wholeOf, parseOf}
-use Rattle.records.proofs.Heads.{head-least}
+use Rattle.heads.specs.Heads.{headLen}
+use Rattle.records.specs.Parse.{wholeOf, parseOf}
+use Rattle.heads.proofs.Heads.{head-least}
 use Rattle.records.proofs.Records.{none, short-way, long-way}
 use native.Mathlib.Omega.{arith}
 

@@ -7,7 +7,7 @@ use Prim.Native.Nat.{ℕ}
 use mathlib.Core.List.{List}
 use Rattle.part.specs.declared.registers.Registers.{Registers}
 use Rattle.simulated.specs.Simulated.{poweredUp, memoryLeft}
-use Rattle.tile.specs.Tile.{flag, tileOf}
+use Rattle.tens.specs.Tens.{flag, tileOf}
 use Rattle.tile.proofs.Through.{through}
 
 registers-of-requires : tie.Need-registers-of-requires

@@ -8,7 +8,7 @@ use mathlib.Core.List.{List}
 use lib.ListN.{length}
 use Rattle.part.specs.declared.registers.Registers.{Registers}
 use Rattle.simulated.specs.Simulated.{phoned, memoryPhoned}
-use Rattle.tile.specs.Tile.{tileOf}
+use Rattle.tens.specs.Tens.{tileOf}
 use Rattle.tile.proofs.Through.{through}
 
 registers-of-requires : tie.Need-registers-of-requires

@@ -5,7 +5,7 @@ use denote.Ref.{now}
 use Prim.Native.Nat.{ℕ, _-_}
 use Rattle.part.specs.declared.registers.Registers.{Registers}
 use Rattle.part.specs.Part.{withBusy}
-use Rattle.tile.specs.Tile.{tileOf}
+use Rattle.tens.specs.Tens.{tileOf}
 use Rattle.tile.proofs.Through.{through}
 
 registers-of-requires : tie.Need-registers-of-requires

@@ -1,0 +1,19 @@
+use borrow.Author.Needs.{needs}
+use Rattle.tens.proofs.cycle_of.Statement.{statement}
+use Rattle.tens.proofs.cycle_of.Tie as tie
+use borrow.Author.Tests.{eq-eqb, ne-eqb}
+
+returns : tie.Need-returns
+returns c = rw (eq-eqb _ 1 (c .if1 .taken))
+
+cast-t6 : tie.Need-cast-t6
+cast-t6 c = search needs
+
+returns-2 : tie.Need-returns-2
+returns-2 c = rw (ne-eqb _ 1 (c .before .if1 .left), eq-eqb _ 2 (c .if2 .taken))
+
+returns-3 : tie.Need-returns-3
+returns-3 c = rw (ne-eqb _ 1 (c .before .if1 .left), ne-eqb _ 2 (c .if2 .left))
+
+pub cycle-of-spec : {M : Type 1} → statement M
+cycle-of-spec = tie.close (tie.spec returns cast-t6 returns-2 returns-3)

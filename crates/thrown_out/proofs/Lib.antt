@@ -1,0 +1,3 @@
+pub mod Earlys
+pub mod Slips
+pub mod ThrownOut
