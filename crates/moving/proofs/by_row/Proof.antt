@@ -1,8 +1,8 @@
 use borrow.Author.Needs.{needs}
-use Rattle.shortcut.proofs.by_row.Statement.{statement}
-use Rattle.shortcut.proofs.by_row.Tie as tie
-use Rattle.shortcut.proofs.by_row.Reads as reads
-use Rattle.shortcut.proofs.by_row.Lts as lts
+use Rattle.moving.proofs.by_row.Statement.{statement}
+use Rattle.moving.proofs.by_row.Tie as tie
+use Rattle.moving.proofs.by_row.Reads as reads
+use Rattle.moving.proofs.by_row.Lts as lts
 use Rattle.restoring.proofs.chunk_from.Reads as chunk-from-reads
 use Rattle.restoring.proofs.rows_from.Reads as rows-from-reads
 use Rattle.onward.proofs.after_poll.Reads as after-poll-reads
