@@ -1,6 +1,6 @@
 -- Every call, from every mark, with any replies whatever: the session asks for exactly the transfers of the definition's trace, ends with
 -- its answer and its mark, and the rows that it counted are the acknowledged row writes of that trace.
-use mathlib.Core.Path.{_≡_, refl, subst, ap, _∙_}
+use mathlib.Core.Path.{_≡_, refl, sym, subst, ap, ap₂, _∙_}
 use mathlib.Core.Bool.{true}
 use mathlib.Core.List.{List, [], _∷_}
 use Prim.Native.Nat.{ℕ, _+_, _≤_}
@@ -40,3 +40,11 @@ pub session-drives : (c : Call) (m : Mark) (ρ : Replies) → m ≤ 8192
     → Drives (lentTo c) 0 (startOf c m) ρ (trace (callOf c m) ρ)
     (record { answer = answerOf (callOf c m) ρ; mark = markOf m (callOf c m) ρ; report = reportOn nothing (trace (callOf c m) ρ) })
 session-drives c m ρ h = drives (lentTo c) nothing (startOf c m) ρ (trace (callOf c m) ρ) _ (session-runs c m ρ) (start-sound c m h)
+
+-- And no other run: the replies decide the exchanges and the end.
+pub drives-once : (lent : List ℕ) (k : ℕ) (t : Turn) (ρ : Replies) (es : List Exchange) (e : End) (fs : List Exchange) (f : End)
+    → Drives lent k t ρ es e → Drives lent k t ρ fs f → (es ≡ fs) × (e ≡ f)
+drives-once lent k t ρ es e fs f ends ends = (refl, refl)
+drives-once lent k t ρ es e fs f (goes {t = x} {es = ds} p d) (goes {t = y} {es = gs} q g) =
+    let r = drives-once lent _ _ (later ρ) ds e gs f d g in
+    (ap₂ (λ (u : Transfer) (l : List Exchange). record { transfer = u; reply = ρ 0 } ∷ l) (p ∙ sym q) (r .0), r .1)

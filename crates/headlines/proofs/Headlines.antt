@@ -9,6 +9,7 @@
 --   cards                  == document 01's eleven bench cards are what the definitions compute to
 --   session-drives         == any replies whatever: a call asks for the definition's transfers, ends with its answer and its mark, and the
 --                             rows that it counts are the acknowledged row writes
+--   drives-once            == and there is no other run: the replies decide the exchanges and the end
 --   kept-exactly           == state bytes are read exactly where calls leave them
 --   nothing-left           == after any history of calls, phones and cuts: power-up and an uncut `begin` leave all 8,192 bytes zero
 --   covered-or-reported    == in a session without a cut every non-zero byte lies below the mark, or the part reports a phone's write
@@ -37,8 +38,9 @@ use Rattle.protocol.specs.Mark.{Mark}
 use Rattle.protocol.specs.Mark as mark
 use Rattle.protocol.specs.Call.{Call, begin, finish, scrub}
 use Rattle.protocol.specs.Calls.{callOf}
-use Rattle.protocol.specs.Trace.{Replies, trace, answerOf, markOf, nothing, reportOn}
+use Rattle.protocol.specs.Trace.{Replies, Exchange, End, trace, answerOf, markOf, nothing, reportOn}
 use Rattle.stages.specs.Turns.{startOf, lentTo}
+use Rattle.stages.specs.declared.stage.Turn.{Turn}
 use Rattle.session.specs.declared.session.Session.{Session}
 use Rattle.state.specs.Bytes.{encode, decodeOf}
 use Rattle.state.specs.declared.decode.Decoded.the-variants.{State}
@@ -80,6 +82,10 @@ pub session-drives : (c : Call) (m : Mark) (ρ : Replies) → m ≤ 8192
     → Drives (lentTo c) 0 (startOf c m) ρ (trace (callOf c m) ρ)
     (record { answer = answerOf (callOf c m) ρ; mark = markOf m (callOf c m) ρ; report = reportOn nothing (trace (callOf c m) ρ) })
 session-drives = drives.session-drives
+
+pub drives-once : (lent : List ℕ) (k : ℕ) (t : Turn) (ρ : Replies) (es : List Exchange) (e : End) (fs : List Exchange) (f : End)
+    → Drives lent k t ρ es e → Drives lent k t ρ fs f → (es ≡ fs) × (e ≡ f)
+drives-once = drives.drives-once
 
 pub kept-exactly : (l : List ℕ) (s : Session) → Bytes l → (decodeOf l ≡ State s) ↔ (Left s × (encode s ≡ l))
 kept-exactly = kept.kept-exactly
