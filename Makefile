@@ -10,9 +10,9 @@ demo:
 test:
 	@tools/gate
 
-# Power cuts after every step of a full wipe and of days in the museum, each recovered: make cuts S=7
+# Power cuts after every step of a full wipe and of days in the museum, each recovered, or after some (HOW=short): make cuts S=7
 cuts:
-	@tools/cuts $(S)
+	@tools/cuts $(or $(HOW),full) $(S)
 
 # The archives for C, for this machine; or for another processor: make lib TARGET=thumbv7em-none-eabi
 lib:
