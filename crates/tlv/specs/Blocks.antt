@@ -6,7 +6,6 @@
 --   bodyOf s t from len    == the block s of type t whose len bytes begin at `from`: Cut where they run past s; type 03 is the message
 --   onLength s t l         == the block s of type t, by its length
 --   blockOf s              == what stands at the front of the blocks s: nothing or FE, the end; 00, one byte; else a block with a length
---   lengthNumber l         == document 01's number: 13 where the length is not all there, else 0
 use mathlib.Core.List.{List}
 use Prim.Native.Nat.{ℕ, _+_, _*_}
 use lib.ListN.{length, getD, drop}
@@ -37,7 +36,3 @@ blockOf s =
     (pick (eqb (getD s 0 0) 0x00) (Over 1)
     (pick (eqb (getD s 0 0) 0xFE) Stop
     (onLength s (getD s 0 0) (tlvLength (drop 1 s)))))
-
-abbrev pub lengthNumber : Length → ℕ
-lengthNumber (Of len size) = 0
-lengthNumber Missing = 13
