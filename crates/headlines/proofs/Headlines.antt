@@ -10,6 +10,8 @@
 --   session-drives         == any replies whatever: a call asks for the definition's transfers, ends with its answer and its mark, and the
 --                             rows that it counts are the acknowledged row writes
 --   drives-once            == and there is no other run: the replies decide the exchanges and the end
+--   hosts-agree            == so for a C host that has the step's number, the state's bytes and its buffers alone: whatever it hands in, the
+--                             bus sees the definition's transfers, and the last step and state are its answer, rows and mark
 --   kept-exactly           == state bytes are read exactly where calls leave them
 --   nothing-left           == after any history of calls, phones and cuts: power-up and an uncut `begin` leave all 8,192 bytes zero
 --   covered-or-reported    == in a session without a cut every non-zero byte lies below the mark, or the part reports a phone's write
@@ -41,14 +43,18 @@ use Rattle.protocol.specs.Calls.{callOf}
 use Rattle.protocol.specs.Trace.{Replies, Exchange, End, trace, answerOf, markOf, nothing, reportOn}
 use Rattle.stages.specs.Turns.{startOf, lentTo}
 use Rattle.stages.specs.declared.stage.Turn.{Turn}
+use Rattle.session.specs.Steps.{idle}
 use Rattle.session.specs.declared.session.Session.{Session}
 use Rattle.state.specs.Bytes.{encode, decodeOf}
 use Rattle.state.specs.declared.decode.Decoded.the-variants.{State}
 use Rattle.kept.specs.Bytes.{Bytes}
-use Rattle.kept.specs.Left.{Left}
+use Rattle.kept.specs.Kept.{Kept}
 use Rattle.kept.proofs.Theorems as kept
 use Rattle.drives.specs.Drives.{Drives}
 use Rattle.drives.proofs.Theorems as drives
+use Rattle.telling.specs.Left.{Left, startLeft}
+use Rattle.hosts.specs.Hosts.{Act, outFor, Hosts, Agrees}
+use Rattle.hosts.proofs.Theorems as hosts
 use Rattle.part.specs.Part.{Part, ThePart, rfOn, free}
 use Rattle.nothing_left.specs.Runs.{Moments, run, Clean}
 use Rattle.nothing_left.specs.Histories.{PowerUp}
@@ -87,7 +93,11 @@ pub drives-once : (lent : List ℕ) (k : ℕ) (t : Turn) (ρ : Replies) (es : Li
     → Drives lent k t ρ es e → Drives lent k t ρ fs f → (es ≡ fs) × (e ≡ f)
 drives-once = drives.drives-once
 
-pub kept-exactly : (l : List ℕ) (s : Session) → Bytes l → (decodeOf l ≡ State s) ↔ (Left s × (encode s ≡ l))
+pub hosts-agree : (c : Call) (m : Mark) (s t r : List ℕ) (es : List Act) (e : Left) → decodeOf s ≡ State (idle m) → 19 ≤ length t → 64 ≤ length r
+    → Hosts (lentTo c) (outFor c) (startLeft c s t r) es e → Agrees c m es e
+hosts-agree = hosts.hosts-agree
+
+pub kept-exactly : (l : List ℕ) (s : Session) → Bytes l → (decodeOf l ≡ State s) ↔ (Kept s × (encode s ≡ l))
 kept-exactly = kept.kept-exactly
 
 pub nothing-left : {p : Part} → PowerUp p → (w : Moments) → Clean (run begin mark.whole p w)

@@ -36,7 +36,7 @@ use Rattle.session.specs.declared.session.Now.the-variants as N
 use Rattle.session.specs.declared.session.Session.{Session}
 use Rattle.session.proofs.Unders.{both}
 use Rattle.kept.specs.Bytes.{Bytes}
-use Rattle.kept.specs.Left.{asked, Left}
+use Rattle.kept.specs.Kept.{asked, Kept}
 use Rattle.kept.proofs.Replies.{bytes-none, bytes-zeros, says-one}
 use Rattle.kept.proofs.Chunks.{scrub-says}
 use Rattle.kept.proofs.Pieces.{write-says}
@@ -48,7 +48,7 @@ use Rattle.kept.proofs.ReachWrites.{write-reached}
 
 module _ (m : Mark) (h : m ≤ 8192) where
   abbrev Here : Stage → Type 0
-  Here st = Left (at m 0 0 st)
+  Here st = Kept (at m 0 0 st)
 
   -- the calls that begin with one transfer, whatever they are given
   starts : (c : Call) (st : Stage) → lentTo c ≡ [] → startOf c m ≡ D.Open m st → Here st
@@ -109,13 +109,13 @@ module _ (m : Mark) (h : m ≤ 8192) where
   finish-status true = reply (G.FinishOff (Rest false 0)) (G.FinishStatus true) 0 (omega arith) (omega arith) refl refl (finish-off (Rest false 0) refl)
   finish-status false = reply (G.FinishOff (Look false 9)) (G.FinishStatus false) 4 (omega arith) (omega arith) refl refl (finish-off (Look false 9) refl)
 
-  wipes : (rows : ℕ) (s : Scrub) → scrubSound m rows s ≡ true → Left (at m rows 0 (G.Wipe s))
+  wipes : (rows : ℕ) (s : Scrub) → scrubSound m rows s ≡ true → Kept (at m rows 0 (G.Wipe s))
   wipes rows s e =
       scrub-reached m G.Wipe (λ x y ack got q. ap (wipeTurn m) q) (λ x. refl)
       (λ left q. starts call.scrub _ refl (ap (λ (k : ℕ). wipeTurn m (chunkFrom k 0 (wipeEnd m))) q)) rows s (scrub-says m rows s e)
 
   -- no phone wrote
-  finish-wipes : (stuck : Bool) (rows : ℕ) (s : Scrub) → scrubSound m rows s ≡ true → Left (at m rows 0 (G.FinishWipe stuck s))
+  finish-wipes : (stuck : Bool) (rows : ℕ) (s : Scrub) → scrubSound m rows s ≡ true → Kept (at m rows 0 (G.FinishWipe stuck s))
   finish-wipes stuck rows s e =
       scrub-reached m (G.FinishWipe stuck) (λ x y ack got q. ap (finishTurn m stuck) q) (λ x. refl)
       (λ left q. reply (G.FinishStatus stuck) (G.FinishWipe stuck (C.Read (record { left = left; at = 0; end = wipeEnd m }))) 0 (omega arith) (omega arith)
@@ -123,27 +123,27 @@ module _ (m : Mark) (h : m ≤ 8192) where
       rows s (scrub-says m rows s e)
 
   -- the data of a write: as many bytes as it has
-  writes : (rows n : ℕ) (w : Write) → stageSound m rows n (G.Write w) ≡ true → Left (at m rows n (G.Write w))
+  writes : (rows n : ℕ) (w : Write) → stageSound m rows n (G.Write w) ≡ true → Kept (at m rows n (G.Write w))
   writes rows n w e =
       let bs : List ℕ = replicate n 0 in
       let l : length bs ≡ n = length-replicate n 0 in
-      subst (λ (k : ℕ). Left (at m rows k (G.Write w))) l
+      subst (λ (k : ℕ). Kept (at m rows k (G.Write w))) l
       (write-reached m h bs (bytes-zeros n) rows w (write-says m (length bs) rows w (subst (λ (k : ℕ). stageSound m rows k (G.Write w) ≡ true) (sym l) e)))
 
   -- no rows, and no data
-  plainly : (rows n : ℕ) (st : Stage) → plain rows n ≡ true → Here st → Left (at m rows n st)
+  plainly : (rows n : ℕ) (st : Stage) → plain rows n ≡ true → Here st → Kept (at m rows n st)
   plainly rows n st e x =
       let a = both (eqb rows 0) (eqb n 0) e in
-      subst (λ (k : ℕ). Left (at m k n st)) (sym (eqb-true rows 0 (a .0))) (subst (λ (k : ℕ). Left (at m 0 k st)) (sym (eqb-true n 0 (a .1))) x)
+      subst (λ (k : ℕ). Kept (at m k n st)) (sym (eqb-true rows 0 (a .0))) (subst (λ (k : ℕ). Kept (at m 0 k st)) (sym (eqb-true n 0 (a .1))) x)
 
   -- a machine in a stage with no rows and no data
-  within : (rows n : ℕ) (st : Stage) (b : Bool) → (plain rows n && b) ≡ true → (b ≡ true → Here st) → Left (at m rows n st)
+  within : (rows n : ℕ) (st : Stage) (b : Bool) → (plain rows n && b) ≡ true → (b ≡ true → Here st) → Kept (at m rows n st)
   within rows n st b e f = let a = both (plain rows n) b e in plainly rows n st (a .0) (f (a .1))
 
-  wiping : (rows n : ℕ) (st : Stage) (b : Bool) → (eqb n 0 && b) ≡ true → (b ≡ true → Left (at m rows 0 st)) → Left (at m rows n st)
-  wiping rows n st b e f = let a = both (eqb n 0) b e in subst (λ (k : ℕ). Left (at m rows k st)) (sym (eqb-true n 0 (a .0))) (f (a .1))
+  wiping : (rows n : ℕ) (st : Stage) (b : Bool) → (eqb n 0 && b) ≡ true → (b ≡ true → Kept (at m rows 0 st)) → Kept (at m rows n st)
+  wiping rows n st b e f = let a = both (eqb n 0) b e in subst (λ (k : ℕ). Kept (at m rows k st)) (sym (eqb-true n 0 (a .0))) (f (a .1))
 
-  stage-left : (rows n : ℕ) (st : Stage) → stageSound m rows n st ≡ true → Left (at m rows n st)
+  stage-left : (rows n : ℕ) (st : Stage) → stageSound m rows n st ≡ true → Kept (at m rows n st)
   stage-left rows n G.Identify e = plainly rows n G.Identify e (starts call.identify G.Identify refl refl)
   stage-left rows n (G.Prepare s) e = within rows n (G.Prepare s) (setupSound s) e (prepares s)
   stage-left rows n (G.WaitReady w) e = within rows n (G.WaitReady w) (waitSound w) e (waits w)
@@ -162,13 +162,13 @@ module _ (m : Mark) (h : m ≤ 8192) where
   stage-left rows n (G.FinishStatus stuck) e = plainly rows n (G.FinishStatus stuck) e (finish-status stuck)
   stage-left rows n (G.FinishWipe stuck s) e = wiping rows n (G.FinishWipe stuck s) (scrubSound m rows s) e (finish-wipes stuck rows s)
 
-  now-left : (rows n : ℕ) (now : Now) → nowSound m rows n now ≡ true → Left (record { mark = m; rows = rows; lent = n; now = now })
+  now-left : (rows n : ℕ) (now : Now) → nowSound m rows n now ≡ true → Kept (record { mark = m; rows = rows; lent = n; now = now })
   now-left rows n N.Idle e =
       let a = both (eqb rows 0) (eqb n 0) e in
-      subst (λ (k : ℕ). Left (record { mark = m; rows = k; lent = n; now = N.Idle })) (sym (eqb-true rows 0 (a .0)))
-      (subst (λ (k : ℕ). Left (record { mark = m; rows = 0; lent = k; now = N.Idle })) (sym (eqb-true n 0 (a .1))) (left-idle m h))
+      subst (λ (k : ℕ). Kept (record { mark = m; rows = k; lent = n; now = N.Idle })) (sym (eqb-true rows 0 (a .0)))
+      (subst (λ (k : ℕ). Kept (record { mark = m; rows = 0; lent = k; now = N.Idle })) (sym (eqb-true n 0 (a .1))) (left-idle m h))
   now-left rows n (N.Open st) e = stage-left rows n st e
 
-pub sound-left : (s : Session) → sound s ≡ true → Left s
+pub sound-left : (s : Session) → sound s ≡ true → Kept s
 sound-left s e =
     now-left (s .mark) (mark-inside s e) (s .rows) (s .lent) (s .now) (both (leb (s .mark) 8192) (nowSound (s .mark) (s .rows) (s .lent) (s .now)) e .1)

@@ -23,7 +23,7 @@ use Rattle.wipe.specs.declared.scrub.Scrubbed.the-variants.{More, Not}
 use Rattle.numbers.specs.Flat.{bitOf}
 use Rattle.session.proofs.Unders.{both}
 use Rattle.kept.specs.Bytes.{Bytes}
-use Rattle.kept.specs.Left.{Answers}
+use Rattle.kept.specs.Kept.{Answers}
 use Rattle.kept.proofs.Truths.{both-so, false-of, never}
 use Rattle.kept.proofs.Replies.{bytes-none, bytes-more, bytes-zeros, bytes-both}
 use Rattle.kept.proofs.Chunks.{stopOf, ChunkIn, RowIn, stop-rows}

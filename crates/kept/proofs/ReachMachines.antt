@@ -31,7 +31,7 @@ use Rattle.stages.specs.declared.stage.Stage.{Stage}
 use Rattle.stages.specs.declared.stage.Turn.the-variants as D
 use Rattle.session.specs.Sound.{waitSound, openSound, storeSound, setupSound, switchSound, offSound}
 use Rattle.kept.specs.Bytes.{Bytes}
-use Rattle.kept.specs.Left.{asked, Answers, Left}
+use Rattle.kept.specs.Kept.{asked, Answers, Kept}
 use Rattle.kept.proofs.Machines.{wait-counts, switch-counts, setup-counts}
 use Rattle.kept.proofs.Replies.{bytes-none, bytes-more, bytes-zeros, bytes-both, says-none, says-one}
 use Rattle.kept.proofs.Reach.{at, onto, along, downward}
@@ -51,23 +51,23 @@ switch-asked (Rest on n) = omega arith
 module _ (m : Mark) (rows n : ℕ) (lent : List ℕ) (l : length lent ≡ n) (b : Bytes lent) (f : Wait → Stage)
     (step : (w v : Wait) (ack : Bool) → waitStep w ack ≡ W.More v → stageStep lent m (f w) ack [] ≡ D.Open m (f v))
     (asks : (w : Wait) → stageAsk n (f w) ≡ waitAsk w) where
-  polls : (w v : Wait) (ack : Bool) → waitStep w ack ≡ W.More v → Left (at m rows n (f w)) → Left (at m rows n (f v))
+  polls : (w v : Wait) (ack : Bool) → waitStep w ack ≡ W.More v → Kept (at m rows n (f w)) → Kept (at m rows n (f v))
   polls w v ack e =
       onto m m rows rows n (f w) (f v) (waitAsk w) lent ack [] (asks w) l b (says-none (waitAsk w) (wait-asked w)) (step w v ack e) (omega (arith, wait-counts w ack))
 
-  paused : (k : ℕ) → Left (at m rows n (f (Poll k))) → Left (at m rows n (f (Pause k)))
+  paused : (k : ℕ) → Kept (at m rows n (f (Poll k))) → Kept (at m rows n (f (Pause k)))
   paused k = polls (Poll k) (Pause k) false refl
 
-  again : (k : ℕ) → Left (at m rows n (f (Poll (suc k)))) → Left (at m rows n (f (Poll k)))
+  again : (k : ℕ) → Kept (at m rows n (f (Poll (suc k)))) → Kept (at m rows n (f (Poll k)))
   again k h = polls (Pause (suc k)) (Poll k) true refl (paused (suc k) h)
 
-  polled : (k : ℕ) → ltb k 100 ≡ true → Left (at m rows n (f waitNew)) → Left (at m rows n (f (Poll k)))
+  polled : (k : ℕ) → ltb k 100 ≡ true → Kept (at m rows n (f waitNew)) → Kept (at m rows n (f (Poll k)))
   polled k e h =
       let g = ltb-true k 100 e in
       let q : 99 ≡ 99 - k + k = omega (arith, g) in
-      downward (λ (i : ℕ). Left (at m rows n (f (Poll i)))) again (99 - k) k (subst (λ (i : ℕ). Left (at m rows n (f (Poll i)))) q h)
+      downward (λ (i : ℕ). Kept (at m rows n (f (Poll i)))) again (99 - k) k (subst (λ (i : ℕ). Kept (at m rows n (f (Poll i)))) q h)
 
-  pub wait-reached : (w : Wait) → waitSound w ≡ true → Left (at m rows n (f waitNew)) → Left (at m rows n (f w))
+  pub wait-reached : (w : Wait) → waitSound w ≡ true → Kept (at m rows n (f waitNew)) → Kept (at m rows n (f w))
   wait-reached (Poll k) e h = polled k e h
   wait-reached (Pause k) e h = paused k (polled k e h)
 
@@ -76,7 +76,7 @@ module _ (m : Mark) (f : Switch → Stage)
     (step : (s t : Switch) (ack : Bool) (v : ℕ) → switchStep s ack v ≡ S.More t → stageStep [] m (f s) ack (v ∷ []) ≡ D.Open m (f t))
     (asks : (s : Switch) → stageAsk 0 (f s) ≡ switchAsk s) where
   abbrev Here : Switch → Type 0
-  Here s = Left (at m 0 0 (f s))
+  Here s = Kept (at m 0 0 (f s))
 
   moves : (s t : Switch) (ack : Bool) → switchStep s ack 0 ≡ S.More t → Here s → Here t
   moves s t ack e =
@@ -128,9 +128,9 @@ part-bytes =
 -- the setup inside a stage
 module _ (m : Mark) (f : Setup → Stage)
     (step : (s t : Setup) (ack : Bool) (got : List ℕ) → setupStep s ack got ≡ U.More t → stageStep [] m (f s) ack got ≡ D.Open m (f t))
-    (asks : (s : Setup) → stageAsk 0 (f s) ≡ setupAsk s) (begun : Left (at m 0 0 (f I.Identify))) where
+    (asks : (s : Setup) → stageAsk 0 (f s) ≡ setupAsk s) (begun : Kept (at m 0 0 (f I.Identify))) where
   abbrev Now : Setup → Type 0
-  Now s = Left (at m 0 0 (f s))
+  Now s = Kept (at m 0 0 (f s))
 
   goes : (s t : Setup) (got : List ℕ) → Answers (setupAsk s) got → setupStep s true got ≡ U.More t → Now s → Now t
   goes s t got g e = along m (f s) (f t) (setupAsk s) true got (asks s) g (step s t true got e) (setup-counts s true)

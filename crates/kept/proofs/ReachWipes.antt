@@ -20,7 +20,7 @@ use Rattle.stages.specs.Turns.{stageAsk, stageStep}
 use Rattle.stages.specs.declared.stage.Stage.{Stage}
 use Rattle.stages.specs.declared.stage.Turn.the-variants as D
 use Rattle.session.specs.Steps.{counted}
-use Rattle.kept.specs.Left.{Answers, Left}
+use Rattle.kept.specs.Kept.{Answers, Kept}
 use Rattle.kept.proofs.Replies.{bytes-none, says-none}
 use Rattle.kept.proofs.Chunks.{stopOf, ChunkIn, RowIn, ScrubIn, stop-rows}
 use Rattle.kept.proofs.ReachFound.{before, lastOf, prevOf, before-in, before-stop, last-in, prev-in, no-z, zeros, says-zeros, next-read, next-reread, found-any}
@@ -35,9 +35,9 @@ next-before p h =
 module _ (m : Mark) (f : Scrub → Stage)
     (step : (s t : Scrub) (ack : Bool) (got : List ℕ) → scrubStep s ack got ≡ More t → stageStep [] m (f s) ack got ≡ D.Open m (f t))
     (asks : (s : Scrub) → stageAsk 0 (f s) ≡ scrubAsk s)
-    (begun : (left : ℕ) → chunks (wipeEnd m) ≡ suc left → Left (at m 0 0 (f (C.Read (record { left = left; at = 0; end = wipeEnd m }))))) where
+    (begun : (left : ℕ) → chunks (wipeEnd m) ≡ suc left → Kept (at m 0 0 (f (C.Read (record { left = left; at = 0; end = wipeEnd m }))))) where
   abbrev Here : ℕ → Scrub → Type 0
-  Here rows s = Left (at m rows 0 (f s))
+  Here rows s = Kept (at m rows 0 (f s))
 
   moves : (rows more : ℕ) (s t : Scrub) (got : List ℕ) → Answers (scrubAsk s) got → scrubStep s true got ≡ More t → rows + counted (scrubAsk s) true ≡ more
       → Here rows s → Here more t

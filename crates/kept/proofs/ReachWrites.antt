@@ -32,7 +32,7 @@ use Rattle.stages.specs.declared.stage.Turn.the-variants as D
 use Rattle.session.specs.Steps.{counted}
 use Rattle.session.proofs.Unders.{count-some}
 use Rattle.kept.specs.Bytes.{Bytes}
-use Rattle.kept.specs.Left.{Answers, Left}
+use Rattle.kept.specs.Kept.{Answers, Kept}
 use Rattle.kept.proofs.Truths.{either-way}
 use Rattle.kept.proofs.Marks.{widened-same}
 use Rattle.kept.proofs.Rows.{count-one, prev-len}
@@ -125,7 +125,7 @@ last-row start n h = ⊎-elim only after (lt-or-ge ((start + n - 1) / 16 * 16) s
 
 module _ (m : Mark) (inside : m ≤ 8192) (bs : List ℕ) (are : Bytes bs) where
   abbrev Here : ℕ → Write → Type 0
-  Here rows w = Left (at m rows (length bs) (G.Write w))
+  Here rows w = Kept (at m rows (length bs) (G.Write w))
 
   moves : (rows more : ℕ) (w v : Write) (got : List ℕ) → Answers (writeAsk (length bs) w) got → writeStep w true got bs ≡ More v
       → rows + counted (writeAsk (length bs) w) true ≡ more → Here rows w → Here more v

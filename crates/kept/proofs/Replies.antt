@@ -6,7 +6,7 @@ use native.Mathlib.Omega.{arith}
 use lib.ListN.{take, drop, replicate}
 use Rattle.machine.specs.declared.ask.Ask.{Ask}
 use Rattle.kept.specs.Bytes.{Bytes}
-use Rattle.kept.specs.Left.{asked, Answers}
+use Rattle.kept.specs.Kept.{asked, Answers}
 
 pub bytes-none : Bytes []
 bytes-none i = omega arith

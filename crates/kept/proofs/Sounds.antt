@@ -16,7 +16,7 @@ use Rattle.session.specs.Steps.{idle, entered, counted}
 use Rattle.session.specs.declared.session.Now.the-variants as N
 use Rattle.session.specs.declared.session.Session.{Session}
 use Rattle.session.proofs.Unders.{both}
-use Rattle.kept.specs.Left.{Left, new, started, replied}
+use Rattle.kept.specs.Kept.{Kept, new, started, replied}
 use Rattle.kept.proofs.Truths.{both-so}
 use Rattle.kept.proofs.Turns.{turn-sound, step-in, start-in}
 
@@ -42,7 +42,7 @@ step-sound s st lent ack got e o l =
     (step-in (s .mark) (s .rows) lent st ack got (mark-inside s e) (subst (λ (n : ℕ). stageSound (s .mark) (s .rows) n st ≡ true) (sym l) (open-sound s st e o))))
 
 -- so is every session that some calls leave
-pub left-sound : (s : Session) → Left s → sound s ≡ true
+pub left-sound : (s : Session) → Kept s → sound s ≡ true
 left-sound s (new n) = new-sound n
 left-sound s (started m c l b) = start-sound c m (mark-inside (idle m) (left-sound (idle m) l))
 left-sound s (replied t st lent ack got l o n b a) = step-sound t st lent ack got (left-sound t l) o n

@@ -20,7 +20,7 @@ use Rattle.session.specs.declared.session.Session.{Session}
 use Rattle.state.specs.Bytes.{encode, decodeOf}
 use Rattle.state.specs.declared.decode.Decoded.the-variants.{State}
 use Rattle.kept.specs.Bytes.{Bytes}
-use Rattle.kept.specs.Left.{Left}
+use Rattle.kept.specs.Kept.{Kept}
 use Rattle.kept.proofs.Sounds as sounds
 use Rattle.kept.proofs.Ables as ables
 use Rattle.kept.proofs.Counts as counts
@@ -28,7 +28,7 @@ use Rattle.kept.proofs.Decode as decode
 use Rattle.kept.proofs.Exactly as exactly
 
 -- `sound` is exact: it holds of the sessions that some calls, with some replies, leave, and of no other
-pub left-exactly : (s : Session) → Left s ↔ (sound s ≡ true)
+pub left-exactly : (s : Session) → Kept s ↔ (sound s ≡ true)
 left-exactly s = (sounds.left-sound s, exactly.sound-left s)
 
 -- the three ways to such a session: a new one, a call that is started, a reply that is taken
@@ -60,7 +60,7 @@ pub decode-only : (l : List ℕ) (s : Session) → Bytes l → decodeOf l ≡ St
 decode-only = decode.decode-only
 
 -- so the states are the bytes of the sessions that calls leave
-pub kept-exactly : (l : List ℕ) (s : Session) → Bytes l → (decodeOf l ≡ State s) ↔ (Left s × (encode s ≡ l))
+pub kept-exactly : (l : List ℕ) (s : Session) → Bytes l → (decodeOf l ≡ State s) ↔ (Kept s × (encode s ≡ l))
 kept-exactly l s b = (
   λ e. let h = decode.decode-only l s b e in (exactly.sound-left s (h .0), h .1),
   λ h. sym (ap decodeOf (h .1)) ∙ decode.decode-encode s (sounds.left-sound s (h .0)),

@@ -1,2 +1,3 @@
+pub mod Cleans
 pub mod Wipings
 pub mod Shorts

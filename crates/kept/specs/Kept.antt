@@ -1,6 +1,6 @@
 -- The sessions that calls leave, whatever is replied.
 --
---   Left s           == some calls, with some replies, leave the session s: a new one, one whose call was started, one that took a reply
+--   Kept s           == some calls, with some replies, leave the session s: a new one, one whose call was started, one that took a reply
 --   asked a          == how many bytes the transfer a reads
 --   Answers a got    == the bytes `got` can be the reply to a: so many, or more
 -- With each reply come the bytes that were lent: as many as the session says, otherwise any.
@@ -33,9 +33,9 @@ pub record Answers (a : Ask) (got : List ℕ) : Type 0 where
   pub bytes : Bytes got
   pub enough : asked a ≤ length got
 
-pub data Left : Session → Type 0 where
-  new : (n : ℕ) → Left (idle (given n))
-  started : (m : Mark) (c : Call) → Left (idle m) → Bytes (lentTo c) → Left (entered 0 (length (lentTo c)) (startOf c m))
-  replied : (s : Session) (st : Stage) (lent : List ℕ) (ack : Bool) (got : List ℕ) → Left s → s .now ≡ N.Open st → length lent ≡ s .lent
+pub data Kept : Session → Type 0 where
+  new : (n : ℕ) → Kept (idle (given n))
+  started : (m : Mark) (c : Call) → Kept (idle m) → Bytes (lentTo c) → Kept (entered 0 (length (lentTo c)) (startOf c m))
+  replied : (s : Session) (st : Stage) (lent : List ℕ) (ack : Bool) (got : List ℕ) → Kept s → s .now ≡ N.Open st → length lent ≡ s .lent
       → Bytes lent → Answers (stageAsk (s .lent) st) got
-      → Left (entered (s .rows + counted (stageAsk (s .lent) st) ack) (s .lent) (stageStep lent (s .mark) st ack got))
+      → Kept (entered (s .rows + counted (stageAsk (s .lent) st) ack) (s .lent) (stageStep lent (s .mark) st ack got))
