@@ -10,7 +10,7 @@ ghost use Rattle.layout.specs.Lengths.{recordLen};
 ghost use Rattle.layout.specs.Container.{container};
 ghost use Rattle.layout.specs.Block.{messageHead};
 ghost use Rattle.layout.specs.Record.{recordHead};
-use layout::lengths::head_len;
+use lengths::head_len;
 use slices::copy_to;
 use slices::put;
 use slices::put16;
