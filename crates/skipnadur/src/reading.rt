@@ -86,5 +86,5 @@ pub extern "C" fn skp_is(image: &[u8], places: &[usize; 6], name: u8) -> u32
 pub extern "C" fn skp_message(number: u32, text: &mut [u8; 64]) -> u32
     ensures { λ r. ⌜ (r ≡ length (messageOf number)) × (now (text .exit) ≡ padded 64 (messageOf number)) ⌝ }
 {
-    messages::message(number, text)
+    phrases::message(number, text)
 }

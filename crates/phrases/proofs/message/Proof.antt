@@ -5,10 +5,10 @@ use Prim.Native.Nat.{ℕ}
 use lib.ListN.{replicate}
 use borrow.Author.Needs.{needs}
 use Rattle.slices.specs.Bytes.{splice}
 use Rattle.messages.specs.declared.Line.{Line}
 use Rattle.messages.proofs.Table.{short, widened}
-use Rattle.messages.proofs.message.Statement.{statement}
-use Rattle.messages.proofs.message.Tie as tie
+use Rattle.phrases.proofs.message.Statement.{statement}
+use Rattle.phrases.proofs.message.Tie as tie
 
 found-requires : tie.Need-found-requires
 found-requires c κs = search needs

@@ -1,10 +1,10 @@
 use mathlib.Core.Path.{refl}
 use borrow.Author.Needs.{needs}
 use Rattle.uri.specs.Prefixes.{ascii}
 use Rattle.messages.specs.Messages.{messages, padded, told, lines}
 use Rattle.messages.proofs.Table.{known}
-use Rattle.messages.proofs.found.Statement.{statement}
-use Rattle.messages.proofs.found.Tie as tie
+use Rattle.phrases.proofs.found.Statement.{statement}
+use Rattle.phrases.proofs.found.Tie as tie
 
 slot-requires : tie.Need-slot-requires
 slot-requires c κs = search needs
