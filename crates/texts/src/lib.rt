@@ -7,8 +7,8 @@ ghost use lib.ListN.{length};
 ghost use Rattle.utf8.specs.Utf8.{utf8};
 ghost use Rattle.utf8.specs.Skips.{Skips};
 use characters::first_len;
-use characters::inside;
-use characters::rest;
+use tails::inside;
+use tails::rest;
 
 // The `n` bytes from `i` are all ASCII. With a constant `n` this is a load of n bytes and one test.
 fn all_ascii(s: &[u8], i: usize, n: usize) -> bool

@@ -2,10 +2,10 @@
 ghost use mathlib.Core.Path.{_≡_};
 ghost use Prim.Native.Nat.{_+_, _<_, _^_};
 ghost use lib.ListN.{length};
-ghost use Rattle.records.specs.Parse.{parseOf, endOf};
-ghost use Rattle.walk.specs.Step.{stop, recordAt, onParsed, stepOf};
+ghost use Rattle.records.specs.Parse.{parseOf};
+ghost use Rattle.walk.specs.Step.{stop, onParsed, stepOf};
+use placed::record_at;
 use records::Parsed;
-use records::Record;
 use walk::Entry;
 use walk::Stepped;
 
@@ -14,30 +14,6 @@ fn stopped(entry: Entry, end: usize) -> Stepped
     ensures { λ r. ⌜ r ≡ stop entry end ⌝ }
 {
     Stepped { entry, next: end }
-}
-
-// A record that begins at `at`, and the place after it: the message's end after the last one.
-fn record_at(r: Record, at: usize, end: usize) -> Stepped
-    requires { ⌜ at + endOf r < 2 ^ 64 ⌝ }
-    ensures { λ s. ⌜ s ≡ recordAt at end r ⌝ }
-{
-    let last = r.last;
-    let entry = Entry::Record(Record {
-        format: r.format,
-        last,
-        kind: at + r.kind,
-        kind_len: r.kind_len,
-        id_len: r.id_len,
-        payload_len: r.payload_len,
-    });
-    if last {
-        return Stepped { entry, next: end };
-    }
-    let len = r.kind + r.kind_len + r.id_len + r.payload_len;
-    Stepped {
-        entry,
-        next: at + len,
-    }
 }
 
 // The record at the front of the bytes that are left, which begin at `at`.

@@ -1,6 +1,6 @@
 use borrow.Author.Needs.{needs}
-use Rattle.walking.proofs.record_at.Statement.{statement}
-use Rattle.walking.proofs.record_at.Tie as tie
+use Rattle.placed.proofs.record_at.Statement.{statement}
+use Rattle.placed.proofs.record_at.Tie as tie
 
 add-len : tie.Need-add-len
 add-len c = search needs

@@ -9,8 +9,8 @@ use Rattle.slices.specs.Pick.{pick}
 use Rattle.utf8.specs.Utf8.{_to_, fits}
 use Rattle.utf8.specs.Rest.{rest}
 use Rattle.utf8.proofs.Places.{left, rest-first, rest-next, rest-done, rest-short}
-use Rattle.characters.proofs.rest.Statement.{statement}
-use Rattle.characters.proofs.rest.Tie as tie
+use Rattle.tails.proofs.rest.Statement.{statement}
+use Rattle.tails.proofs.rest.Tie as tie
 
 abbrev Inv-loop : tie.InvT-loop
 Inv-loop s i n lo hi ok₀ k₀ ok k = (k ≤ n) × (ok && left s i n k ≡ fits (drop (i + 1) s) (rest n lo hi))
