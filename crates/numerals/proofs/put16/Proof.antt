@@ -1,9 +1,9 @@
 use borrow.Author.Needs.{needs}
 use native.Mathlib.Omega.{arith}
 use Rattle.slices.specs.Bytes.{be}
 use Rattle.slices.proofs.Splice.{chain}
-use Rattle.slices.proofs.put16.Statement.{statement}
-use Rattle.slices.proofs.put16.Tie as tie
+use Rattle.numerals.proofs.put16.Statement.{statement}
+use Rattle.numerals.proofs.put16.Tie as tie
 
 cast-put : tie.Need-cast-put
 cast-put c = search needs

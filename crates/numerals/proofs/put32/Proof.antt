@@ -1,9 +1,9 @@
 use borrow.Author.Needs.{needs}
 use native.Mathlib.Omega.{arith}
 use Rattle.slices.specs.Bytes.{be}
 use Rattle.slices.proofs.Splice.{chain}
-use Rattle.slices.proofs.put32.Statement.{statement}
-use Rattle.slices.proofs.put32.Tie as tie
+use Rattle.numerals.proofs.put32.Statement.{statement}
+use Rattle.numerals.proofs.put32.Tie as tie
 
 put16-requires : tie.Need-put16-requires
 put16-requires c κs = search needs
