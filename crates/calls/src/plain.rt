@@ -1,6 +1,5 @@
 // The calls on numbers and on one buffer. Each gets the case's line, writes its answer at `at` and gives the place after it. Which
 // call a name means is told first, as a number (0 for one of another family), so that no buffer is held while names are compared.
-use layout::lengths;
 use layout::refusal::Verdict;
 use lines::given::given;
 use lines::said;
@@ -32,10 +31,10 @@ pub fn length_call(name: &[u8]) -> usize {
 fn length_of(call: usize, a: usize, b: usize) -> usize {
     match call {
         1 => lengths::image_len_for(a, b),
-        2 => lengths::mime_image_len(a, b),
-        3 => lengths::record_image_len(a),
-        4 => lengths::image_len(a),
-        _ => lengths::text_image_len(a),
+        2 => totals::mime_image_len(a, b),
+        3 => totals::record_image_len(a),
+        4 => totals::image_len(a),
+        _ => totals::text_image_len(a),
     }
 }
 
@@ -53,7 +52,7 @@ fn verdict_number(v: Verdict) -> usize {
 }
 
 fn capability_container(line: &[u8], out: &mut [u8], at: usize) -> usize {
-    let c = layout::container::capability_container(number(second(line)));
+    let c = container::capability_container(number(second(line)));
     let bytes = c.bytes;
     let verdict = c.verdict;
     let a = head(line, out, at, verdict_number(verdict));
@@ -62,7 +61,7 @@ fn capability_container(line: &[u8], out: &mut [u8], at: usize) -> usize {
 
 fn set_read_only(line: &[u8], out: &mut [u8], at: usize, lent: &mut [u8]) -> usize {
     let n = given(second(line), lent);
-    layout::container::set_read_only(&mut lent[..n]);
+    container::set_read_only(&mut lent[..n]);
     let a = head(line, out, at, 0);
     said::bytes(out, a, front(lent, n))
 }
@@ -70,7 +69,7 @@ fn set_read_only(line: &[u8], out: &mut [u8], at: usize, lent: &mut [u8]) -> usi
 fn is_utf8(line: &[u8], out: &mut [u8], at: usize, lent: &mut [u8]) -> usize {
     let n = given(second(line), lent);
     let a = head(line, out, at, 0);
-    if utf8::is_utf8(front(lent, n)) {
+    if texts::is_utf8(front(lent, n)) {
         said::number(out, a, 1)
     } else {
         said::number(out, a, 0)

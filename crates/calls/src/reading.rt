@@ -35,9 +35,9 @@ fn uri(out: &mut [u8], at: usize, image: &[u8], r: Record) -> usize {
 
 // A record's numbers and parts.
 fn parts(out: &mut [u8], at: usize, image: &[u8], r: Record) -> usize {
-    let a = said::bytes(out, at, pieces::kind(image, r));
-    let b = said::bytes(out, a, pieces::id(image, r));
-    said::bytes(out, b, pieces::payload(image, r))
+    let a = said::bytes(out, at, kinds::kind(image, r));
+    let b = said::bytes(out, a, payloads::id(image, r));
+    said::bytes(out, b, payloads::payload(image, r))
 }
 
 // One record: format, last flag, type, id, payload, text, URI.
@@ -56,7 +56,7 @@ fn walk(out: &mut [u8], at: usize, image: &[u8], from: usize, end: usize) -> usi
     let mut place = from;
     let mut turn = 0;
     while turn <= image.len() {
-        let s = walk::step(image, place, end);
+        let s = walking::step(image, place, end);
         let entry = s.entry;
         place = s.next;
         match entry {

@@ -3,8 +3,8 @@ ghost use mathlib.Core.Path.{_≡_};
 ghost use lib.ListN.{length};
 ghost use Rattle.closes.specs.Closes.{finishAnswer, finishAfter};
 use judging::Built;
-use layout::lengths::sat_add;
 use layout::refusal::Refusal;
+use lengths::sat_add;
 
 // Closes the image: the terminator at `at`, where the payload ended. Only that byte changes.
 pub fn finish(out: &mut [u8], at: usize) -> Built

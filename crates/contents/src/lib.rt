@@ -5,7 +5,7 @@ ghost use lib.ListN.{length};
 ghost use Rattle.contents.specs.Contents.{payloadAt, textIn, textOf};
 ghost use Rattle.pieces.specs.Parts.{payloadOf};
 use records::Record;
-use utf8::is_utf8;
+use texts::is_utf8;
 
 // A part of an image: its place and its length.
 pub enum Part {
@@ -39,7 +39,7 @@ fn text_in(p: &[u8], at: usize) -> Part
 fn text_at(image: &[u8], r: Record) -> Part
     ensures { λ p. ⌜ p ≡ textIn (payloadOf (now (image .entry)) r) (payloadAt r) ⌝ }
 {
-    let p = pieces::payload(image, r);
+    let p = payloads::payload(image, r);
     if p.len() == 0 {
         return Part::Nothing;
     }
@@ -51,7 +51,7 @@ fn text_at(image: &[u8], r: Record) -> Part
 pub fn text(image: &[u8], r: Record) -> Part
     ensures { λ p. ⌜ p ≡ textOf (now (image .entry)) r ⌝ }
 {
-    if pieces::is(image, r, b'T') {
+    if kinds::is(image, r, b'T') {
         return text_at(image, r);
     }
     Part::Nothing

@@ -8,11 +8,11 @@ ghost use Rattle.slices.specs.Bytes.{Wrote};
 ghost use Rattle.layout.specs.Lengths.{imageLen};
 ghost use Rattle.layout.specs.Record.{whole};
 ghost use Rattle.layout.specs.Image.{front, image};
+use copies::copy_long;
 use parts::put_container;
 use parts::put_message_head;
 use parts::put_record_head;
 use parts::record_len;
-use slices::copy_long;
 use slices::copy_to;
 use slices::put;
 

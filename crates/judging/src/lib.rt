@@ -2,9 +2,9 @@
 ghost use mathlib.Core.Path.{_≡_};
 ghost use Prim.Native.Nat.{_<_, _^_};
 ghost use Rattle.judging.specs.Judge.{verdict, checks};
-use layout::lengths::image_len_for;
 use layout::refusal::Refusal;
 use layout::refusal::Verdict;
+use lengths::image_len_for;
 use parts::record_len;
 
 // A finished build, or one that went as far as its payload: the place after the last byte written.

@@ -1,3 +1,2 @@
-pub mod Access
 pub mod Images
 pub mod Sizes

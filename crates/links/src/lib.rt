@@ -7,9 +7,9 @@ ghost use Rattle.contents.specs.Contents.{payloadAt};
 ghost use Rattle.links.specs.Links.{noLink, uriIn, uriOf};
 use contents::Part;
 use records::Record;
+use texts::is_utf8;
 use uri::Prefix;
 use uri::uri_prefix;
-use utf8::is_utf8;
 
 // A URI: where the rest stands, the prefix's code, and the prefix. Where there is no URI the code is 0 and the prefix empty.
 pub struct Link {
@@ -60,7 +60,7 @@ fn uri_in(p: &[u8], at: usize) -> Link
 fn uri_at(image: &[u8], r: Record) -> Link
     ensures { λ l. ⌜ l ≡ uriIn (payloadOf (now (image .entry)) r) (payloadAt r) ⌝ }
 {
-    let p = pieces::payload(image, r);
+    let p = payloads::payload(image, r);
     if p.len() == 0 {
         return nothing();
     }
@@ -72,7 +72,7 @@ fn uri_at(image: &[u8], r: Record) -> Link
 pub fn uri(image: &[u8], r: Record) -> Link
     ensures { λ l. ⌜ l ≡ uriOf (now (image .entry)) r ⌝ }
 {
-    if pieces::is(image, r, b'U') {
+    if kinds::is(image, r, b'U') {
         return uri_at(image, r);
     }
     nothing()

@@ -44,7 +44,7 @@ fn put_record(out: &mut [u8], at: usize, number: usize, image: &[u8], r: Record)
     ensures { λ n. ⌜ Wrote (now (out .entry)) at (recordLine number r (now (image .entry))) (now (out .exit)) n ⌝ }
 {
     let a = put_head(out, at, number, r.format, r.last);
-    let b = put_type(out, a, pieces::kind(image, r));
+    let b = put_type(out, a, kinds::kind(image, r));
     let c = put_number(out, b, r.id_len, b' ');
     put_number(out, c, r.payload_len, b'\n')
 }
@@ -76,7 +76,7 @@ fn put_records(out: &mut [u8], image: &[u8], start: usize, end: usize) -> usize
     let mut at = start;
     let mut count = 0;
     loop {
-        let s = walk::step(image, at, end);
+        let s = walking::step(image, at, end);
         let entry = s.entry;
         match entry {
             Entry::Record(r) => {

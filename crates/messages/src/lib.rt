@@ -1,10 +1,9 @@
-// What document 01's numbers mean, in one line of English each.
+// What document 01's numbers mean, in one line of English each: the definitions, and where a number's line stands among them.
 ghost use mathlib.Core.Path.{_≡_};
 ghost use Prim.Native.Nat.{_≤_};
-ghost use lib.ListN.{length, getD};
+ghost use lib.ListN.{getD};
 ghost use mathlib.Core.List.{[]};
-ghost use Rattle.messages.specs.Messages.{messageOf, lines, padded, entry};
-use slices::copy_to;
+ghost use Rattle.messages.specs.Messages.{messageOf, lines};
 
 // A message: its length, and its bytes with zeros after them.
 pub struct Line {
@@ -12,104 +11,8 @@ pub struct Line {
     pub text: [u8; 32],
 }
 
-// The messages of 0 to 5, 11 to 14, 21 to 26, 31 to 35 and 255, and an empty one for every other number.
-const LINES: [Line; 23] = [
-    Line {
-        len: 4,
-        text: *b"done\0\0\0\0\0\0\0\0\0\0\0\0\0\0\0\0\0\0\0\0\0\0\0\0\0\0\0\0",
-    },
-    Line {
-        len: 25,
-        text: *b"the type name is too long\0\0\0\0\0\0\0",
-    },
-    Line {
-        len: 23,
-        text: *b"the buffer is too small\0\0\0\0\0\0\0\0\0",
-    },
-    Line {
-        len: 22,
-        text: *b"the record is too long\0\0\0\0\0\0\0\0\0\0",
-    },
-    Line {
-        len: 19,
-        text: *b"the area is too big\0\0\0\0\0\0\0\0\0\0\0\0\0",
-    },
-    Line {
-        len: 21,
-        text: *b"the text is not UTF-8\0\0\0\0\0\0\0\0\0\0\0",
-    },
-    Line {
-        len: 16,
-        text: *b"no NFC container\0\0\0\0\0\0\0\0\0\0\0\0\0\0\0\0",
-    },
-    Line {
-        len: 21,
-        text: *b"no message on the tag\0\0\0\0\0\0\0\0\0\0\0",
-    },
-    Line {
-        len: 28,
-        text: *b"a length runs past the bytes\0\0\0\0",
-    },
-    Line {
-        len: 26,
-        text: *b"a record in several pieces\0\0\0\0\0\0",
-    },
-    Line {
-        len: 22,
-        text: *b"the tag did not answer\0\0\0\0\0\0\0\0\0\0",
-    },
-    Line {
-        len: 20,
-        text: *b"not the expected tag\0\0\0\0\0\0\0\0\0\0\0\0",
-    },
-    Line {
-        len: 19,
-        text: *b"the tag stayed busy\0\0\0\0\0\0\0\0\0\0\0\0\0",
-    },
-    Line {
-        len: 21,
-        text: *b"the tag refused setup\0\0\0\0\0\0\0\0\0\0\0",
-    },
-    Line {
-        len: 20,
-        text: *b"NFC would not switch\0\0\0\0\0\0\0\0\0\0\0\0",
-    },
-    Line {
-        len: 30,
-        text: *b"the tag did not take the write\0\0",
-    },
-    Line {
-        len: 15,
-        text: *b"no call is open\0\0\0\0\0\0\0\0\0\0\0\0\0\0\0\0\0",
-    },
-    Line {
-        len: 20,
-        text: *b"a call is still open\0\0\0\0\0\0\0\0\0\0\0\0",
-    },
-    Line {
-        len: 28,
-        text: *b"a buffer of the wrong length\0\0\0\0",
-    },
-    Line {
-        len: 29,
-        text: *b"no session in the state bytes\0\0\0",
-    },
-    Line {
-        len: 21,
-        text: *b"the input is too long\0\0\0\0\0\0\0\0\0\0\0",
-    },
-    Line {
-        len: 15,
-        text: *b"no more records\0\0\0\0\0\0\0\0\0\0\0\0\0\0\0\0\0",
-    },
-    Line {
-        len: 0,
-        text: [0u8; 32],
-    },
-];
-
 // Where a number's message stands in the table.
-fn slot(number: u32) -> usize
+pub fn slot(number: u32) -> usize
     ensures { λ r. ⌜ (r ≤ 22) × (messageOf number ≡ getD lines r []) ⌝ }
 {
     let n = number as usize;
@@ -121,22 +24,4 @@ fn slot(number: u32) -> usize
         255 => 21,
         _ => 22,
     }
-}
-
-// The message of a number.
-fn found(number: u32) -> Line
-    ensures { λ r. ⌜ r ≡ entry (messageOf number) ⌝ }
-{
-    LINES[slot(number)]
-}
-
-// The message of a number, with zeros after it, and its length.
-pub fn message(number: u32, text: &mut [u8; 64]) -> u32
-    ensures { λ r. ⌜ (r ≡ length (messageOf number)) × (now (text .exit) ≡ padded 64 (messageOf number)) ⌝ }
-{
-    let m = found(number);
-    let mut whole = [0u8; 64];
-    copy_to(&mut whole, 0, &m.text);
-    *text = whole;
-    m.len
 }

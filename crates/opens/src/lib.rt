@@ -9,8 +9,8 @@ ghost use Rattle.opens.specs.Opens.{openBytes};
 use joins::put_front;
 use judging::Built;
 use judging::judge;
-use layout::lengths::sat_add;
 use layout::refusal::Verdict;
+use lengths::sat_add;
 use slices::copy_to;
 
 // The front of a record whose payload is `head` and `rest_len` bytes more, and `head`.

@@ -10,11 +10,11 @@ ghost use Rattle.layout.specs.Lengths.{recordLen};
 ghost use Rattle.layout.specs.Container.{container};
 ghost use Rattle.layout.specs.Block.{messageHead};
 ghost use Rattle.layout.specs.Record.{recordHead};
-use layout::lengths::head_len;
+use lengths::head_len;
+use numerals::put16;
+use numerals::put32;
 use slices::copy_to;
 use slices::put;
-use slices::put16;
-use slices::put32;
 
 // The eight bytes before the first block.
 pub fn put_container(out: &mut [u8], area: usize) -> usize

@@ -4,7 +4,7 @@ ghost use Rattle.pieces.specs.Parts.{isOf};
 ghost use Rattle.plain.specs.Reading.{recordOf, yes};
 ghost use Rattle.places.specs.Places.{partAt, partNumber, partNumbers, kindPart, idPart, payloadPart};
 use contents::Part;
-use layout::lengths::sat_add;
+use lengths::sat_add;
 use plain::record_of;
 
 // 1 and the place and length of a part, or 0 and zeros.
@@ -66,5 +66,5 @@ pub fn payload(image: &[u8], places: &[usize; 6], part: &mut [usize; 2]) -> u32
 pub fn is(image: &[u8], places: &[usize; 6], name: u8) -> u32
     ensures { λ r. ⌜ r ≡ yes (isOf (now (image .entry)) (recordOf (now (places .entry))) name) ⌝ }
 {
-    pieces::is(image, record_of(places), name) as u32
+    kinds::is(image, record_of(places), name) as u32
 }

@@ -18,7 +18,8 @@ use Rattle.walk.specs.declared.Cursor.{Cursor}
 use Rattle.walk.specs.declared.Entry.{Entry}
 use Rattle.walk.specs.declared.Entry.the-variants as entry
 use Rattle.walk.specs.declared.Stepped.{Stepped}
-use Rattle.walk.specs.Step.{shift, onParsed, left, stepOf, entryOf}
+use Rattle.walk.specs.Step.{shift, onParsed, left, stepOf}
+use Rattle.cursors.specs.Lent.{entryOf}
 use Rattle.plain.specs.Reading.{entryNumber, entryPlaces, placesOf, recordOf}
 use Rattle.plain.proofs.AsNumbers.{read-back}
 

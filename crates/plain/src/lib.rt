@@ -2,7 +2,8 @@
 ghost use mathlib.Core.Path.{_≡_};
 ghost use Prim.Native.Nat.{min};
 ghost use Rattle.blocks.specs.Read.{readOf, numberOf};
-ghost use Rattle.walk.specs.Step.{startOf, entryOf, moved};
+ghost use Rattle.walk.specs.Step.{startOf};
+ghost use Rattle.cursors.specs.Lent.{entryOf, moved};
 ghost use Rattle.plain.specs.Reading.{cursorOf, cursorNumbers, placesOf, recordOf, entryNumber, entryPlaces};
 use records::Record;
 use walk::Entry;
@@ -85,7 +86,7 @@ pub fn next(image: &[u8], cursor: &mut [usize; 2], places: &mut [usize; 6]) -> u
 {
     let at = cursor[0];
     let end = cursor[1];
-    let s = walk::step(image, at, end);
+    let s = walking::step(image, at, end);
     *cursor = [s.next, end];
     let e = s.entry;
     entry(e, places)

@@ -22,35 +22,35 @@ use tells::told;
 pub extern "C" fn skp_image_len_for(kind_len: usize, payload: usize) -> usize
     ensures { λ r. ⌜ r ≡ sat (imageLen «kind_len» payload) ⌝ }
 {
-    layout::lengths::image_len_for(kind_len, payload)
+    lengths::image_len_for(kind_len, payload)
 }
 
 #[no_mangle]
 pub extern "C" fn skp_record_image_len(payload: usize) -> usize
     ensures { λ r. ⌜ r ≡ sat (imageLen 1 payload) ⌝ }
 {
-    layout::lengths::record_image_len(payload)
+    totals::record_image_len(payload)
 }
 
 #[no_mangle]
 pub extern "C" fn skp_mime_image_len(mime_len: usize, payload: usize) -> usize
     ensures { λ r. ⌜ r ≡ sat (imageLen «mime_len» payload) ⌝ }
 {
-    layout::lengths::mime_image_len(mime_len, payload)
+    totals::mime_image_len(mime_len, payload)
 }
 
 #[no_mangle]
 pub extern "C" fn skp_image_len(uri_len: usize) -> usize
     ensures { λ r. ⌜ r ≡ sat (imageLen 1 (uriPayloadLen «uri_len»)) ⌝ }
 {
-    layout::lengths::image_len(uri_len)
+    totals::image_len(uri_len)
 }
 
 #[no_mangle]
 pub extern "C" fn skp_text_image_len(text_len: usize) -> usize
     ensures { λ r. ⌜ r ≡ sat (imageLen 1 (textPayloadLen «text_len»)) ⌝ }
 {
-    layout::lengths::text_image_len(text_len)
+    totals::text_image_len(text_len)
 }
 
 // The place after the last byte that is not zero, or 0.
@@ -72,7 +72,7 @@ pub extern "C" fn skp_capability_container(area: usize, container: &mut [u8; 8])
 pub extern "C" fn skp_set_read_only(image: &mut [u8])
     ensures { λ _. ⌜ now (image .exit) ≡ readOnly (now (image .entry)) ⌝ }
 {
-    layout::container::set_read_only(image)
+    container::set_read_only(image)
 }
 
 // Any record: of its type name format the low three bits count.

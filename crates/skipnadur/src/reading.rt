@@ -4,7 +4,8 @@ ghost use mathlib.Core.Path.{_≡_};
 ghost use lib.ListN.{length};
 ghost use Rattle.blocks.specs.Read.{readOf, numberOf};
 ghost use Rattle.pieces.specs.Parts.{isOf};
-ghost use Rattle.walk.specs.Step.{startOf, entryOf, moved};
+ghost use Rattle.walk.specs.Step.{startOf};
+ghost use Rattle.cursors.specs.Lent.{entryOf, moved};
 ghost use Rattle.uri.specs.Prefixes.{prefixAnswer};
 ghost use Rattle.contents.specs.Contents.{textOf};
 ghost use Rattle.links.specs.Links.{uriOf};
@@ -85,5 +86,5 @@ pub extern "C" fn skp_is(image: &[u8], places: &[usize; 6], name: u8) -> u32
 pub extern "C" fn skp_message(number: u32, text: &mut [u8; 64]) -> u32
     ensures { λ r. ⌜ (r ≡ length (messageOf number)) × (now (text .exit) ≡ padded 64 (messageOf number)) ⌝ }
 {
-    messages::message(number, text)
+    phrases::message(number, text)
 }

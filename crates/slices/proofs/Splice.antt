@@ -1,12 +1,12 @@
 -- Laws of `splice` and `Wrote`: writes after one another are one write.
-use mathlib.Core.Path.{_≡_, refl, ap, ap₂, sym, subst, _∙_}
+use mathlib.Core.Path.{_≡_, refl, ap, ap₂, sym, _∙_}
 use mathlib.Core.List.{List, [], _∷_, _++_, append-assoc, append-nil}
 use Prim.Native.Nat.{ℕ, _+_, _-_, _≤_, _<_}
 use native.Mathlib.Omega.{arith}
 use native.Mathlib.Nat.{add-assoc, add-zero, zero-add}
 use native.Mathlib.Numerals.{add-one}
 use lib.ListN.{length, take, drop, set, getD, length-append, length-drop, take-append-drop}
-use lib.Seq.{length-take-le, take-at, drop-at, drop-drop, drop-length, set-split, take-suc, take-all, take-add}
+use lib.Seq.{length-take-le, take-at, drop-at, drop-drop, drop-length, set-split, take-suc, take-all}
 use Rattle.slices.specs.Bytes.{splice, Wrote}
 
 pub splice-is : (d : List ℕ) (at : ℕ) (bs : List ℕ) → splice d at bs ≡ take at d ++ (bs ++ drop (at + length bs) d)
@@ -65,18 +65,6 @@ module _ {o₀ o₁ o₂ : List ℕ} {at n₁ n₂ : ℕ} {bs cs : List ℕ} whe
         bytes = v .bytes ∙ ap₂ (λ (l : List ℕ) (n : ℕ). splice l n cs) (w .bytes) (w .place) ∙ splice-splice o₀ at bs (omega arith) cs;
         place = let e = length-append bs cs in let q = v .place in omega arith;
       }
-
--- a copy that has come as far as i, and the next n bytes
-pub copied-on : {o₀ o₁ o₂ : List ℕ} {at r : ℕ} (s : List ℕ) (i n : ℕ) → i + n ≤ length s → at + length s ≤ length o₀
-    → Wrote o₀ at (take i s) o₁ (at + i) → Wrote o₁ (at + i) (take n (drop i s)) o₂ r → Wrote o₀ at (take (i + n) s) o₂ (at + (i + n))
-copied-on {o₀} {o₁} {o₂} {at} {r} s i n h fits w v =
-    let c = chain (omega arith) w v in
-    record { bytes = c .bytes ∙ ap (splice o₀ at) (sym (take-add i n s)); place = ap (λ (m : ℕ). at + m) (sym (length-take-le (i + n) s h)) }
-
--- and all the rest
-pub copied-all : {o₀ o₁ o₂ : List ℕ} {at r : ℕ} (s : List ℕ) (i : ℕ) → i ≤ length s → at + length s ≤ length o₀
-    → Wrote o₀ at (take i s) o₁ (at + i) → Wrote o₁ (at + i) (drop i s) o₂ r → Wrote o₀ at s o₂ r
-copied-all {o₀} {o₁} {o₂} {at} {r} s i h fits w v = subst (λ (bs : List ℕ). Wrote o₀ at bs o₂ r) (take-append-drop i s) (chain (omega arith) w v)
 
 -- one more byte of a copy
 pub splice-more : (d : List ℕ) (at : ℕ) (s : List ℕ) (i : ℕ) → i < length s → at + length s ≤ length d

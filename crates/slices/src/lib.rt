@@ -1,10 +1,10 @@
-// Writing into a lent buffer: one byte, a number high byte first, a whole slice, short or long; and the front of a slice. Knows nothing of NFC.
+// Writing into a lent buffer: one byte, a whole slice; and the front of a slice. Knows nothing of NFC.
 // Each writer keeps every other byte and returns the place after what it wrote, so that writes chain.
 ghost use mathlib.Core.Path.{_≡_};
 ghost use mathlib.Core.List.{_∷_, []};
 ghost use Prim.Native.Nat.{_+_, _≤_, _<_};
-ghost use lib.ListN.{length, take, drop};
-ghost use Rattle.slices.specs.Bytes.{Wrote, be};
+ghost use lib.ListN.{length, take};
+ghost use Rattle.slices.specs.Bytes.{Wrote};
 
 // One byte.
 pub fn put(out: &mut [u8], at: usize, b: u8) -> usize
@@ -13,24 +13,6 @@ pub fn put(out: &mut [u8], at: usize, b: u8) -> usize
 {
     out[at] = b;
     at + 1
-}
-
-// The low two bytes of `v`, high byte first.
-pub fn put16(out: &mut [u8], at: usize, v: usize) -> usize
-    requires { ⌜ at + 2 ≤ length (now out) ⌝ }
-    ensures { λ r. ⌜ Wrote (now (out .entry)) at (be 2 v) (now (out .exit)) r ⌝ }
-{
-    let a = put(out, at, (v / 256 % 256) as u8);
-    put(out, a, (v % 256) as u8)
-}
-
-// The low four bytes of `v`, high byte first.
-pub fn put32(out: &mut [u8], at: usize, v: usize) -> usize
-    requires { ⌜ at + 4 ≤ length (now out) ⌝ }
-    ensures { λ r. ⌜ Wrote (now (out .entry)) at (be 4 v) (now (out .exit)) r ⌝ }
-{
-    let a = put16(out, at, v / 256 / 256);
-    put16(out, a, v)
 }
 
 // All of `src`.
@@ -44,30 +26,6 @@ pub fn copy_to(out: &mut [u8], at: usize, src: &[u8]) -> usize
         i += 1;
     }
     at + i
-}
-
-// A block of `src`, by value.
-fn block_at(src: &[u8], i: usize) -> [u8; 1024]
-    requires { ⌜ i + 1024 ≤ length (now src) ⌝ }
-    ensures { λ r. ⌜ r ≡ take 1024 (drop i (now (src .entry))) ⌝ }
-{
-    let mut block = [0; 1024];
-    copy_to(&mut block, 0, &src[i..i + 1024]);
-    block
-}
-
-// All of `src`, which may be long: in blocks, the rest as `copy_to` does. The compiler cannot know that `out` and `src` lie apart, but a
-// local array does from both: it makes of a block's two copies one, by the C library's move, and no block is left on the stack.
-pub fn copy_long(out: &mut [u8], at: usize, src: &[u8]) -> usize
-    requires { ⌜ at + length (now src) ≤ length (now out) ⌝ }
-    ensures { λ r. ⌜ Wrote (now (out .entry)) at (now (src .entry)) (now (out .exit)) r ⌝ }
-{
-    let mut i = 0;
-    while 1024 <= src.len() - i {
-        copy_to(out, at + i, &block_at(src, i));
-        i += 1024;
-    }
-    copy_to(out, at + i, &src[i..])
 }
 
 // The first `n` bytes, or all where there are fewer.

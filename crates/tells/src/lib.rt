@@ -64,7 +64,7 @@ fn verdict_number(v: Verdict) -> u32
 pub fn capability_container(area: usize, container: &mut [u8; 8]) -> u32
     ensures { λ r. ⌜ (r ≡ verdictNumber (containerAnswer area .verdict)) × (now (container .exit) ≡ containerAnswer area .bytes) ⌝ }
 {
-    let c = layout::container::capability_container(area);
+    let c = container::capability_container(area);
     let bytes = c.bytes;
     *container = bytes;
     let v = c.verdict;

@@ -9,8 +9,6 @@
 --   onParsed at end p    == the step at `at`, by what stands at the front of the bytes there; after a refusal, the end
 --   left s at end        == the bytes from `at` to the message's end
 --   stepOf s at end      == what stands at a cursor of the image s, and the next place
---   entryOf s c          == what stands at the cursor c
---   moved s c            == the cursor c, moved on
 --   numberOf e           == document 01's number: 13, 14, and 0 for a record and for the end
 use mathlib.Core.List.{List}
 use Prim.Native.Nat.{ℕ, _+_, _-_}
@@ -67,12 +65,6 @@ left s at end = take (end - at) (drop at s)
 unfoldable pub stepOf : List ℕ → ℕ → ℕ → Stepped
 stepOf s at end =
     pick (ltb (length s) end) (stop entry.End end) (pick (leb end at) (stop entry.End end) (onParsed at end (parseOf (left s at end))))
-
-abbrev pub entryOf : List ℕ → Cursor → Entry
-entryOf s c = stepOf s (c .at) (c .end) .entry
-
-abbrev pub moved : List ℕ → Cursor → Cursor
-moved s c = record { at = stepOf s (c .at) (c .end) .next; end = c .end }
 
 abbrev pub numberOf : Entry → ℕ
 numberOf (entry.Record r) = 0

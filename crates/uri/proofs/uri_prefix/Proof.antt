@@ -1,3 +1,4 @@
+-- The tables of the code are the document's.
 use borrow.Author.Needs.{needs}
 use mathlib.Core.Path.{refl}
 use Rattle.uri.specs.Prefixes.{prefixes, entry, ascii}
@@ -5,20 +6,53 @@ use Rattle.uri.proofs.Table.{known, unknown}
 use Rattle.uri.proofs.uri_prefix.Statement.{statement}
 use Rattle.uri.proofs.uri_prefix.Tie as tie
 
-mul-t77 : tie.Need-mul-t77
-mul-t77 c = search needs
+mul-from : tie.Need-mul-from
+mul-from c = search needs
 
-array-copy-out-t80 : tie.Need-array-copy-out-t80
-array-copy-out-t80 c = search needs
+slice-aggregate-copy-to : tie.Need-slice-aggregate-copy-to
+slice-aggregate-copy-to c = search needs
 
--- the table of the code is the document's
+add-copy-to : tie.Need-add-copy-to
+add-copy-to c = search needs
+
+sub-copy-to : tie.Need-sub-copy-to
+sub-copy-to c = search needs
+
+part-copy-to-start : tie.Need-part-copy-to-start
+part-copy-to-start c = search needs
+
+part-copy-to-end : tie.Need-part-copy-to-end
+part-copy-to-end c = search needs
+
+copy-to-requires : tie.Need-copy-to-requires
+copy-to-requires c κs = search needs
+
+array-read-wide : tie.Need-array-read-wide
+array-read-wide c = search needs
+
+wide-requires : tie.Need-wide-requires
+wide-requires c κs = search needs
+
 returns : tie.Need-returns
 unfolding prefixes entry ascii
-returns c = known _ _ _ refl (search needs)
+returns c = known _ _ _ _ refl refl refl refl (search needs) (c .wide .ensures) (c .before .before .copy-to .ensures .bytes)
 
 returns-2 : tie.Need-returns-2
 unfolding entry
 returns-2 c = unknown _ _ refl (search needs)
 
 pub uri-prefix-spec : {M : Type 1} → statement M
-uri-prefix-spec = tie.close (tie.spec mul-t77 array-copy-out-t80 returns returns-2)
+uri-prefix-spec =
+    tie.close
+    (tie.spec
+    mul-from
+    slice-aggregate-copy-to
+    add-copy-to
+    sub-copy-to
+    part-copy-to-start
+    part-copy-to-end
+    copy-to-requires
+    array-read-wide
+    wide-requires
+    returns
+    returns-2)
