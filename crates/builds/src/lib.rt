@@ -71,7 +71,7 @@ fn open(line: &[u8], lent: &mut [u8], kind: &mut [u8], call: usize) -> Built {
 fn uri_image(line: &[u8], lent: &mut [u8], text: &mut [u8]) -> Built {
     let n = given(fifth(line), text);
     let prefix = (number(fourth(line)) % 256) as u8;
-    image::uri_image(lent, number(third(line)), front(text, n), prefix)
+    addresses::uri_image(lent, number(third(line)), front(text, n), prefix)
 }
 
 fn text_image(line: &[u8], lent: &mut [u8], text: &mut [u8]) -> Built {

@@ -145,7 +145,7 @@ pub extern "C" fn skp_uri_image(
 ) -> u32
     ensures { λ r. ⌜ Builds (uriVerdict (length (now (out .entry))) area prefix (now (uri .entry))) (uriImage area prefix (now (uri .entry))) (now (out .entry)) r (now (values .exit)) (now (out .exit)) ⌝ }
 {
-    told(image::uri_image(out, area, uri, prefix), values)
+    told(addresses::uri_image(out, area, uri, prefix), values)
 }
 
 #[no_mangle]

@@ -1,6 +1,6 @@
 use borrow.Author.Needs.{needs}
-use Rattle.image.proofs.uri_image.Statement.{statement}
-use Rattle.image.proofs.uri_image.Tie as tie
+use Rattle.addresses.proofs.uri_image.Statement.{statement}
+use Rattle.addresses.proofs.uri_image.Tie as tie
 use Rattle.layout.specs.Payload.{uriPayload}
 
 slice-aggregate-text-with : tie.Need-slice-aggregate-text-with
