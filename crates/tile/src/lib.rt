@@ -64,7 +64,7 @@ pub extern "C" fn skp_tile_read(
 pub extern "C" fn skp_tile_wait(tile: &mut Tile, ms: usize)
     ensures { λ _. ⌜ now (tile .exit) ≡ tileOf (withBusy (registersOf (now (tile .entry)) .busy - ms) (registersOf (now (tile .entry)))) ⌝ }
 {
-    *tile = tile_of(power::wait(registers_of(tile), ms));
+    *tile = tile_of(passing::wait(registers_of(tile), ms));
 }
 
 // A phone writes `bytes` from `at` on. With RF off, or past the memory, nothing changes.
