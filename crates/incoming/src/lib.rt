@@ -6,7 +6,7 @@ ghost use lib.ListN.{length, getD, drop};
 ghost use Rattle.scan.specs.Zeros.{alike};
 ghost use Rattle.protocol.specs.Transfer.{placeOf};
 ghost use Rattle.protocol.specs.Tag.{userMemory, password};
-use scan::zeros::same;
+use equals::same;
 
 // The byte at `i`, or 0 past the end.
 pub fn byte_at(s: &[u8], i: usize) -> u8

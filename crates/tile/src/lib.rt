@@ -7,8 +7,8 @@ ghost use Rattle.part.specs.Part.{withBusy};
 ghost use Rattle.simulated.specs.Simulated.{wrote, memoryWrote, didRead, outRead, phoned, memoryPhoned, poweredUp, memoryLeft};
 ghost use Rattle.tens.specs.Tens.{flag, numberOf, registersOf, tileOf};
 ghost use Rattle.tile.specs.Acked.{acked};
+use numbered::tile_of;
 use tens::registers_of;
-use tens::tile_of;
 
 // GPO1, RF_MNGT, I2C_CFG, RF_MNGT_Dyn; session open, write reported; milliseconds left of the cycle; its kind, place, and size or old
 // byte.
