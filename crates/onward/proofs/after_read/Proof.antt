@@ -4,7 +4,7 @@ use Rattle.onward.proofs.after_read.Tie as tie
 use Rattle.onward.proofs.after_read.Reads as reads
 use Rattle.onward.proofs.after_read.Lts as lts
 use Rattle.sound.proofs.chunk_stop.Reads as chunk-stop-reads
-use Rattle.chunks.proofs.read_step.Reads as read-step-reads
+use Rattle.found.proofs.read_step.Reads as read-step-reads
 use Rattle.onward.proofs.led.Reads as led-reads
 use mathlib.Core.Path.{refl}
 use denote.Ref.{now}

@@ -1,6 +1,6 @@
 use borrow.Author.Needs.{needs}
-use Rattle.chunks.proofs.rows_found.Statement.{statement}
-use Rattle.chunks.proofs.rows_found.Tie as tie
+use Rattle.found.proofs.rows_found.Statement.{statement}
+use Rattle.found.proofs.rows_found.Tie as tie
 use mathlib.Core.Path.{_∙_, ap}
 use Rattle.wipe.specs.declared.scrub.Scrubbed.the-variants.{More}
 use Rattle.wipe.proofs.Scrubs.{some-found, none-found}

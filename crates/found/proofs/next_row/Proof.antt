@@ -1,6 +1,6 @@
 use borrow.Author.Needs.{needs}
-use Rattle.chunks.proofs.next_row.Statement.{statement}
-use Rattle.chunks.proofs.next_row.Tie as tie
+use Rattle.found.proofs.next_row.Statement.{statement}
+use Rattle.found.proofs.next_row.Tie as tie
 
 returns : tie.Need-returns
 returns c = simp (c .if1 .taken)

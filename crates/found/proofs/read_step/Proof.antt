@@ -1,6 +1,6 @@
 use borrow.Author.Needs.{needs}
-use Rattle.chunks.proofs.read_step.Statement.{statement}
-use Rattle.chunks.proofs.read_step.Tie as tie
+use Rattle.found.proofs.read_step.Statement.{statement}
+use Rattle.found.proofs.read_step.Tie as tie
 use denote.Ref.{now}
 use mathlib.Core.Path.{ap}
 use mathlib.Core.Bool.{not}
