@@ -10,8 +10,8 @@ use finishing::status_turn;
 use finishing::wrote;
 use machine::ask::Ask;
 use machine::switch::Switch;
+use preparing::identified;
 use protocol::answer::Answer;
-use setup::setup::identified;
 use stages::stage::Stage;
 use stages::stage::Turn;
 use switching::begin_off_turn;
@@ -59,7 +59,7 @@ pub fn stage_step(st: Stage, m: usize, ack: bool, reply: &[u8], lent: &[u8], out
 {
     match st {
         Stage::Identify => identify_turn(m, identified(ack, reply)),
-        Stage::Prepare(s) => prepare_turn(m, s.step(ack, reply)),
+        Stage::Prepare(s) => prepare_turn(m, preparing::step(s, ack, reply)),
         Stage::WaitReady(w) => wait_turn(m, w.step(ack)),
         Stage::ReadUser(_, _) => read_turn(m, ack),
         Stage::Write(w) => write_turn(m, programming::step(w, ack, reply, lent)),
@@ -69,7 +69,7 @@ pub fn stage_step(st: Stage, m: usize, ack: bool, reply: &[u8], lent: &[u8], out
         Stage::WholeStatus => Turn::Open(m, Stage::WholeRead),
         Stage::WholeRead => whole_read_turn(m, ack, out),
         Stage::Wipe(s) => wipe_turn(m, scrubbing::step(s, ack, reply)),
-        Stage::BeginSetup(s) => begin_turn(m, s.step(ack, reply)),
+        Stage::BeginSetup(s) => begin_turn(m, preparing::step(s, ack, reply)),
         Stage::BeginOff(s) => begin_off_turn(m, flipping::step(s, ack, reply[0])),
         Stage::LiveStatus => Turn::Open(m, Stage::Switching(Switch::new(true))),
         Stage::FinishOff(s) => finish_off_turn(m, flipping::step(s, ack, reply[0])),

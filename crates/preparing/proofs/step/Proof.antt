@@ -1,6 +1,6 @@
 use borrow.Author.Needs.{needs}
-use Rattle.setup.proofs.setup.Setup.step.Statement.{statement}
-use Rattle.setup.proofs.setup.Setup.step.Tie as tie
+use Rattle.preparing.proofs.step.Statement.{statement}
+use Rattle.preparing.proofs.step.Tie as tie
 
 enum-told : tie.Need-enum-told
 enum-told c = search needs
@@ -17,8 +17,8 @@ shared-slice-read-configured c = search needs
 configured-requires : tie.Need-configured-requires
 configured-requires c κs = search needs
 
-enum-known-self : tie.Need-enum-known-self
-enum-known-self c = search needs
+enum-known-s : tie.Need-enum-known-s
+enum-known-s c = search needs
 
 shared-slice-read-step : tie.Need-shared-slice-read-step
 shared-slice-read-step c = search needs
@@ -29,8 +29,8 @@ step-requires c κs = search needs
 opened-requires : tie.Need-opened-requires
 opened-requires c κs = search needs
 
-enum-known-self-2 : tie.Need-enum-known-self-2
-enum-known-self-2 c = search needs
+enum-known-s-2 : tie.Need-enum-known-s-2
+enum-known-s-2 c = search needs
 
 value-requires : tie.Need-value-requires
 value-requires c κs = search needs
@@ -60,10 +60,10 @@ returns-2 : tie.Need-returns-2
 returns-2 c = rw (c .before .before .enum-told2 .given .1) (c .configured .ensures)
 
 returns-3 : tie.Need-returns-3
-returns-3 c = rw (c .before .before .before .before .self .given .1, ← (c .before .step .ensures)) (c .opened .ensures)
+returns-3 c = rw (c .before .before .before .before .s .given .1, ← (c .before .step .ensures)) (c .opened .ensures)
 
 returns-4 : tie.Need-returns-4
-returns-4 c = rw (c .before .before .before .before .before .self2 .given .1, ← (c .before .before .before .value .ensures), ← (c .before .step2 .ensures)) (c .stored .ensures)
+returns-4 c = rw (c .before .before .before .before .before .s2 .given .1, ← (c .before .before .before .value .ensures), ← (c .before .step2 .ensures)) (c .stored .ensures)
 
 returns-5 : tie.Need-returns-5
 returns-5 c = rw (c .before .before .enum-told3 .given .1) (c .judged .ensures)
@@ -77,11 +77,11 @@ step-spec =
     enum-told-2
     shared-slice-read-configured
     configured-requires
-    enum-known-self
+    enum-known-s
     shared-slice-read-step
     step-requires
     opened-requires
-    enum-known-self-2
+    enum-known-s-2
     value-requires
     shared-slice-read-step-2
     step-requires-2

@@ -1,8 +1,8 @@
 use borrow.Author.Needs.{needs}
-use Rattle.shortcut.proofs.leave.Statement.{statement}
-use Rattle.shortcut.proofs.leave.Tie as tie
-use Rattle.shortcut.proofs.leave.Reads as reads
-use Rattle.shortcut.proofs.leave.Lts as lts
+use Rattle.leaving.proofs.leave.Statement.{statement}
+use Rattle.leaving.proofs.leave.Tie as tie
+use Rattle.leaving.proofs.leave.Reads as reads
+use Rattle.leaving.proofs.leave.Lts as lts
 use Rattle.slices.proofs.copy_to.Reads as copy-to-reads
 use Rattle.state.proofs.bytes.bytes.Reads as bytes-reads
 use Rattle.framing.proofs.frame.Reads as frame-reads

@@ -1,6 +1,6 @@
 use borrow.Author.Needs.{needs}
-use Rattle.setup.proofs.setup.identified.Statement.{statement}
-use Rattle.setup.proofs.setup.identified.Tie as tie
+use Rattle.preparing.proofs.identified.Statement.{statement}
+use Rattle.preparing.proofs.identified.Tie as tie
 
 is-the-part-requires : tie.Need-is-the-part-requires
 is-the-part-requires c κs = search needs

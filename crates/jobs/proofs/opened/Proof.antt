@@ -1,6 +1,6 @@
 use borrow.Author.Needs.{needs}
-use Rattle.setup.proofs.setup.opened.Statement.{statement}
-use Rattle.setup.proofs.setup.opened.Tie as tie
+use Rattle.jobs.proofs.opened.Statement.{statement}
+use Rattle.jobs.proofs.opened.Tie as tie
 
 enum-known-o : tie.Need-enum-known-o
 enum-known-o c = search needs

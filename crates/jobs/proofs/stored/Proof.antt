@@ -1,6 +1,6 @@
 use borrow.Author.Needs.{needs}
-use Rattle.setup.proofs.setup.stored.Statement.{statement}
-use Rattle.setup.proofs.setup.stored.Tie as tie
+use Rattle.jobs.proofs.stored.Statement.{statement}
+use Rattle.jobs.proofs.stored.Tie as tie
 
 enum-known-s : tie.Need-enum-known-s
 enum-known-s c = search needs

@@ -1,6 +1,6 @@
 use borrow.Author.Needs.{needs}
-use Rattle.setup.proofs.setup.next_job.Statement.{statement}
-use Rattle.setup.proofs.setup.next_job.Tie as tie
+use Rattle.jobs.proofs.next_job.Statement.{statement}
+use Rattle.jobs.proofs.next_job.Tie as tie
 
 enum-told : tie.Need-enum-told
 enum-told c = search needs
