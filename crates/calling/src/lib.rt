@@ -3,20 +3,20 @@ ghost use mathlib.Core.Path.{_≡_};
 ghost use Prim.Native.Nat.{_≤_};
 ghost use Rattle.stages.specs.Turns.{startOf};
 ghost use Rattle.calling.specs.Calling.{named};
-use bare::begin;
-use bare::finish;
-use bare::go_live;
 use bare::identify;
-use bare::prepare;
 use bare::rf_off;
 use bare::rf_on;
 use bare::rf_wrote;
-use bare::scrub;
 use bare::wait_ready;
 use ranged::read_user;
 use ranged::read_whole;
 use ranged::write;
+use readying::prepare;
+use readying::scrub;
 use stages::stage::Turn;
+use visits::begin;
+use visits::finish;
+use visits::go_live;
 
 // A call, and the numbers that it is given. The bytes of a write are lent beside it.
 pub enum Call {

@@ -1,11 +1,9 @@
-// What a read asks of the part, and what it does to the registers.
+// What a read asks of the part.
 ghost use mathlib.Core.Path.{_≡_};
-ghost use Rattle.part.specs.Looks.{dynamicAt, systemAt, userLook, systemLook, lookOf, known, looked};
+ghost use Rattle.part.specs.Looks.{dynamicAt, systemAt, userLook, systemLook, lookOf};
+use incoming::inside;
+use incoming::place_of;
 use part::look::Look;
-use part::registers::Registers;
-use registers::bytes::inside;
-use registers::bytes::place_of;
-use registers::changed::noted;
 
 fn dynamic_at(at: usize) -> Look
     ensures { λ r. ⌜ r ≡ dynamicAt at ⌝ }
@@ -80,35 +78,5 @@ pub fn look_of(dev: u8, head: &[u8], n: usize) -> Look
         system_look(at, n)
     } else {
         Look::Unknown
-    }
-}
-
-// Whether it is a read that the part answers.
-pub fn answers(l: Look) -> bool
-    ensures { λ r. ⌜ r ≡ known l ⌝ }
-{
-    match l {
-        Look::Memory(_) => true,
-        Look::Dynamic => true,
-        Look::Session => true,
-        Look::Status => true,
-        Look::Byte(_) => true,
-        Look::Identity => true,
-        Look::Unknown => false,
-    }
-}
-
-// The registers after it: reading the status clears it.
-pub fn seen(l: Look, r: Registers) -> Registers
-    ensures { λ s. ⌜ s ≡ looked l r ⌝ }
-{
-    match l {
-        Look::Memory(_) => r,
-        Look::Dynamic => r,
-        Look::Session => r,
-        Look::Status => noted(r, false),
-        Look::Byte(_) => r,
-        Look::Identity => r,
-        Look::Unknown => r,
     }
 }

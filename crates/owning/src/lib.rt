@@ -2,53 +2,29 @@
 ghost use mathlib.Core.Path.{_≡_};
 ghost use mathlib.Core.Bool.{_&&_};
 ghost use lib.Dec.{eqb};
-ghost use Rattle.numbers.specs.Flat.{noCode, noPlace, scrubCode, scrubPlace, writeCode, writePlace, flatten};
-ghost use Rattle.numbers.specs.From.{scrubFrom, writeFrom, startFrom, wholeFrom, endFrom, sessionFrom};
+ghost use Rattle.numbers.specs.Flat.{noCode, noPlace, writeCode, writePlace, flatten};
+ghost use Rattle.numbers.specs.From.{writeFrom, startFrom, endFrom, sessionFrom};
 ghost use Rattle.state.specs.Bytes.{sameCode, samePlace, sameFlat, sameStage};
+use agreeing::nowhere;
+use agreeing::same_code;
+use agreeing::same_place;
 use flattening::bit;
 use flattening::code;
 use flattening::place;
-use flattening::scrub_code;
-use flattening::scrub_place;
 use flattening::setup_code;
 use flattening::switch_code;
 use flattening::wait_code;
 use flattening::write_code;
 use flattening::write_place;
+use midway::scrub_own;
+use midway::whole_own;
 use numbers::flat::Code;
 use numbers::flat::Flat;
 use numbers::flat::Place;
-use restoring::scrub_from;
 use restoring::setup_from;
 use restoring::switch_from;
 use restoring::wait_from;
 use restoring::write_from;
-
-fn same_code(a: Code, b: Code) -> bool
-    ensures { λ r. ⌜ r ≡ sameCode a b ⌝ }
-{
-    (a.phase == b.phase) & (a.inner == b.inner) & (a.which == b.which) & (a.count == b.count)
-}
-
-fn same_place(a: Place, b: Place) -> bool
-    ensures { λ r. ⌜ r ≡ samePlace a b ⌝ }
-{
-    (a.bits == b.bits) & (a.left == b.left) & (a.at == b.at) & (a.end == b.end) & (a.row == b.row)
-}
-
-// A machine that is at no place.
-fn nowhere(k: Code, c: Code, p: Place) -> bool
-    ensures { λ r. ⌜ r ≡ (sameCode k c && samePlace noPlace p) ⌝ }
-{
-    same_code(k, c) & same_place(place(0, 0, 0, 0), p)
-}
-
-fn scrub_own(which: u8, c: Code, p: Place) -> bool
-    ensures { λ r. ⌜ r ≡ (sameCode (scrubCode which (scrubFrom c p)) c && samePlace (scrubPlace (scrubFrom c p)) p) ⌝ }
-{
-    let s = scrub_from(c, p);
-    same_code(scrub_code(which, s), c) & same_place(scrub_place(s), p)
-}
 
 fn write_own(c: Code, p: Place) -> bool
     ensures { λ r. ⌜ r ≡ (sameCode (writeCode (writeFrom c p)) c && samePlace (writePlace (writeFrom c p)) p) ⌝ }
@@ -94,25 +70,6 @@ fn start_own(tag: u8, c: Code, p: Place) -> bool
     }
     if tag == 7 {
         return nowhere(switch_code(switch_from(c)), c, p);
-    }
-    false
-}
-
-// Stages 8 to 13.
-fn whole_own(tag: u8, c: Code, p: Place) -> bool
-    ensures { λ r. ⌜ r ≡ sameStage (wholeFrom tag c p) tag c p ⌝ }
-{
-    if tag == 9 {
-        return nowhere(switch_code(switch_from(c)), c, p);
-    }
-    if tag == 12 {
-        return scrub_own(0, c, p);
-    }
-    if tag == 13 {
-        return nowhere(setup_code(setup_from(c)), c, p);
-    }
-    if (tag == 8) | (tag == 10) | (tag == 11) {
-        return nowhere(code(0, 0, 0, 0), c, p);
     }
     false
 }

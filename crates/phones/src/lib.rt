@@ -2,9 +2,9 @@
 ghost use mathlib.Core.Path.{_≡_};
 ghost use lib.ListN.{length};
 ghost use Rattle.simulated.specs.Simulated.{phoned, memoryPhoned};
+use incoming::inside;
 use part::registers::Registers;
-use registers::bytes::inside;
-use registers::changed::noted;
+use registers::noted;
 use slices::copy_to;
 
 // A phone writes `bytes` from `at` on. With RF off, or past the memory, nothing changes.

@@ -1,29 +1,11 @@
-// What time and a power cut do to the simulated part.
+// What a power cut does to the simulated part.
 ghost use mathlib.Core.Path.{_≡_};
-ghost use Prim.Native.Nat.{_-_};
-ghost use lib.ListN.{length};
-ghost use Rattle.part.specs.Part.{withBusy};
-ghost use Rattle.part.specs.Power.{powered, tornByte, tornRow};
+ghost use Rattle.part.specs.Power.{powered};
 ghost use Rattle.simulated.specs.Simulated.{poweredUp, memoryLeft};
 use part::registers::Cycle;
 use part::registers::Registers;
-use registers::bytes::inside;
-use registers::changed::left;
-use registers::changed::with_byte;
-use slices::copy_to;
-use slices::front;
-
-// Nothing passes for `ms` milliseconds.
-pub fn wait(r: Registers, ms: usize) -> Registers
-    ensures { λ s. ⌜ s ≡ withBusy (r .busy - ms) r ⌝ }
-{
-    let busy = r.busy as usize;
-    if busy <= ms {
-        left(r, 0)
-    } else {
-        left(r, (busy - ms) as u8)
-    }
-}
+use tearing::tear_byte;
+use tearing::tear_row;
 
 // The registers at power-up.
 fn power_up(r: Registers) -> Registers
@@ -38,35 +20,6 @@ fn power_up(r: Registers) -> Registers
         reported: false,
         busy: 0,
         cycle: Cycle::Nothing,
-    }
-}
-
-// The system bytes after a cut inside the cycle: a byte that was being written is the old one or the new one.
-fn tear_byte(k: Cycle, old: bool, r: Registers) -> Registers
-    ensures { λ s. ⌜ s ≡ tornByte k old r ⌝ }
-{
-    match k {
-        Cycle::Nothing => r,
-        Cycle::Row(_, _) => r,
-        Cycle::Byte(at, v) => { if old { with_byte(r, at, v) } else { r } }
-    }
-}
-
-// The memory after it: `bytes` stand in the place of those that were being written, as many as there are.
-fn tear_row(k: Cycle, memory: &mut [u8], bytes: &[u8]) -> usize
-    requires { ⌜ length (now memory) ≡ 8192 ⌝ }
-    ensures { λ n. ⌜ now (memory .exit) ≡ tornRow k (now (bytes .entry)) (now (memory .entry)) ⌝ }
-{
-    match k {
-        Cycle::Nothing => 0,
-        Cycle::Row(at, n) => {
-            if inside(at, n) {
-                copy_to(memory, at, front(bytes, n))
-            } else {
-                0
-            }
-        }
-        Cycle::Byte(_, _) => 0,
     }
 }
 

@@ -6,12 +6,12 @@ ghost use Rattle.writing.specs.Write.{pieceOf, writeNew, nextPiece, pieceStep, 
 use comparing::check_new;
 use comparing::check_step;
 use comparing::chunk_len;
+use cutting::row_count;
+use cutting::row_len;
 use machine::ask::Ask;
 use machine::wait::Wait;
 use machine::wait::Waited;
 use protocol::answer::TagError;
-use scan::rows::row_count;
-use scan::rows::row_len;
 use writing::write::Piece;
 use writing::write::Write;
 use writing::write::Written;

@@ -1,6 +1,4 @@
-// What a call answers, and the number that a caller gets for it.
-ghost use mathlib.Core.Path.{_≡_};
-ghost use Rattle.protocol.specs.Answer.{errorNumber, answerNumber, answerValue};
+// What a call answers. `outcomes` has the number that a caller gets for it.
 
 // Why the tag could not do what was asked.
 pub enum TagError {
@@ -26,44 +24,4 @@ pub enum Answer {
     Wrote(bool),
     // Refused.
     Not(TagError),
-}
-
-impl TagError {
-    // The number of a refusal.
-    pub fn number(self) -> u8
-        ensures { λ r. ⌜ r ≡ errorNumber self ⌝ }
-    {
-        match self {
-            TagError::NoAnswer => 21,
-            TagError::NotThePart => 22,
-            TagError::Busy => 23,
-            TagError::Refused => 24,
-            TagError::RfStuck => 25,
-            TagError::NotTaken => 26,
-        }
-    }
-}
-
-impl Answer {
-    // The number of an answer: 0, or the refusal's.
-    pub fn number(self) -> u8
-        ensures { λ r. ⌜ r ≡ answerNumber self ⌝ }
-    {
-        match self {
-            Answer::Done => 0,
-            Answer::Wrote(_) => 0,
-            Answer::Not(e) => e.number(),
-        }
-    }
-
-    // The value beside it: 1 where a phone wrote, else 0.
-    pub fn value(self) -> u8
-        ensures { λ r. ⌜ r ≡ answerValue self ⌝ }
-    {
-        match self {
-            Answer::Done => 0,
-            Answer::Wrote(w) => { if w { 1 } else { 0 } }
-            Answer::Not(_) => 0,
-        }
-    }
 }

@@ -81,7 +81,7 @@ fn carried(
         3 => read(b, identity, memory, head, out),
         _ => Answer {
             ack: true,
-            registers: power::wait(r, delay(b.step) as usize),
+            registers: passing::wait(r, delay(b.step) as usize),
         },
     }
 }

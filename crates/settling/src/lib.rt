@@ -10,6 +10,8 @@ ghost use Rattle.telling.specs.Step.{answerStep, transferStep};
 ghost use Rattle.telling.specs.Fit.{StageFits, TurnFits, StartFits};
 use decoding::encode;
 use framing::frame;
+use outcomes::number;
+use outcomes::value;
 use protocol::answer::Answer;
 use results::entered;
 use session::session::Session;
@@ -66,7 +68,7 @@ fn answer(rows: usize, a: Answer) -> u64
     requires { ⌜ rows < 65536 ⌝ }
     ensures { λ r. ⌜ r ≡ answerStep (answerNumber a) rows (answerValue a) ⌝ }
 {
-    step(0, a.number(), rows, wide(a.value()))
+    step(0, number(a), rows, wide(value(a)))
 }
 
 pub fn settle(

@@ -1,18 +1,18 @@
 // The simulated part: it takes every transfer and answers what the definition says. Its memory and its identification are lent; where
 // one of them is not of the part's size, it refuses everything and changes nothing. What is left open there comes from the caller: how
-// long a cycle takes, what a phone writes, what a cut leaves. Here it takes a write; `shows` has the reads, `power` time and cuts, `phones` a
-// phone's visit.
+// long a cycle takes, what a phone writes, what a cut leaves. Here it takes a write; `shows` has the reads, `passing` time, `power` cuts,
+// `phones` a phone's visit.
 ghost use mathlib.Core.Path.{_≡_};
 ghost use lib.ListN.{length, drop};
 ghost use Rattle.part.specs.Orders.{stored};
 ghost use Rattle.simulated.specs.Simulated.{Stores, refusedBy, wrote, memoryWrote};
-use orders::obeyed;
+use incoming::data_len;
+use obeying::obeyed;
 use orders::order_of;
-use orders::taken;
 use part::order::Order;
 use part::registers::Registers;
-use registers::bytes::data_len;
 use slices::copy_to;
+use taking::taken;
 
 // Whether a transfer was acknowledged, and the registers after it.
 pub struct Answer {

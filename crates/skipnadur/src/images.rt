@@ -58,7 +58,7 @@ pub extern "C" fn skp_text_image_len(text_len: usize) -> usize
 pub extern "C" fn skp_high_water(image: &[u8]) -> usize
     ensures { λ r. ⌜ r ≡ highWater (now (image .entry)) ⌝ }
 {
-    scan::zeros::high_water(image)
+    reach::high_water(image)
 }
 
 #[no_mangle]

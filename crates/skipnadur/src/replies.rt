@@ -36,7 +36,7 @@ pub extern "C" fn skp_tag_next(
 pub extern "C" fn skp_tag_new(state: &mut [u8], mark: usize) -> u64
     ensures { λ r. ⌜ (r ≡ newStep (now (state .entry))) × (now (state .exit) ≡ newState (now (state .entry)) mark) ⌝ }
 {
-    asking::new(state, mark)
+    marks::new(state, mark)
 }
 
 // The end of everything that may be non-zero; answered inside an open call too.
@@ -44,5 +44,5 @@ pub extern "C" fn skp_tag_new(state: &mut [u8], mark: usize) -> u64
 pub extern "C" fn skp_tag_dirty(state: &[u8]) -> u64
     ensures { λ r. ⌜ r ≡ dirtyStep (now (state .entry)) ⌝ }
 {
-    asking::dirty(state)
+    marks::dirty(state)
 }

@@ -10,8 +10,8 @@ use finishing::status_turn;
 use finishing::wrote;
 use machine::ask::Ask;
 use machine::switch::Switch;
+use preparing::identified;
 use protocol::answer::Answer;
-use setup::setup::identified;
 use stages::stage::Stage;
 use stages::stage::Turn;
 use switching::begin_off_turn;
@@ -37,16 +37,16 @@ pub fn stage_ask(st: Stage, len: usize) -> Ask
         Stage::WaitReady(w) => w.ask(),
         Stage::ReadUser(at, n) => Ask::Read(0x53, at, n),
         Stage::Write(w) => programming::ask(w, len),
-        Stage::Switching(s) => s.ask(),
+        Stage::Switching(s) => flipping::ask(s),
         Stage::RfWrote => Ask::Read(0x53, 0x2005, 1),
-        Stage::WholeOff(s) => s.ask(),
+        Stage::WholeOff(s) => flipping::ask(s),
         Stage::WholeStatus => Ask::Read(0x53, 0x2005, 1),
         Stage::WholeRead => Ask::Read(0x53, 0, 8192),
         Stage::Wipe(s) => scrubbing::ask(s),
         Stage::BeginSetup(s) => s.ask(),
-        Stage::BeginOff(s) => s.ask(),
+        Stage::BeginOff(s) => flipping::ask(s),
         Stage::LiveStatus => Ask::Read(0x53, 0x2005, 1),
-        Stage::FinishOff(s) => s.ask(),
+        Stage::FinishOff(s) => flipping::ask(s),
         Stage::FinishStatus(_) => Ask::Read(0x53, 0x2005, 1),
         Stage::FinishWipe(_, s) => scrubbing::ask(s),
     }
@@ -59,20 +59,20 @@ pub fn stage_step(st: Stage, m: usize, ack: bool, reply: &[u8], lent: &[u8], out
 {
     match st {
         Stage::Identify => identify_turn(m, identified(ack, reply)),
-        Stage::Prepare(s) => prepare_turn(m, s.step(ack, reply)),
+        Stage::Prepare(s) => prepare_turn(m, preparing::step(s, ack, reply)),
         Stage::WaitReady(w) => wait_turn(m, w.step(ack)),
         Stage::ReadUser(_, _) => read_turn(m, ack),
         Stage::Write(w) => write_turn(m, programming::step(w, ack, reply, lent)),
-        Stage::Switching(s) => switch_turn(m, s.step(ack, reply[0])),
+        Stage::Switching(s) => switch_turn(m, flipping::step(s, ack, reply[0])),
         Stage::RfWrote => Turn::Over(m, Answer::Wrote(wrote(ack, reply[0]))),
-        Stage::WholeOff(s) => whole_turn(m, s.step(ack, reply[0])),
+        Stage::WholeOff(s) => whole_turn(m, flipping::step(s, ack, reply[0])),
         Stage::WholeStatus => Turn::Open(m, Stage::WholeRead),
         Stage::WholeRead => whole_read_turn(m, ack, out),
         Stage::Wipe(s) => wipe_turn(m, scrubbing::step(s, ack, reply)),
-        Stage::BeginSetup(s) => begin_turn(m, s.step(ack, reply)),
-        Stage::BeginOff(s) => begin_off_turn(m, s.step(ack, reply[0])),
+        Stage::BeginSetup(s) => begin_turn(m, preparing::step(s, ack, reply)),
+        Stage::BeginOff(s) => begin_off_turn(m, flipping::step(s, ack, reply[0])),
         Stage::LiveStatus => Turn::Open(m, Stage::Switching(Switch::new(true))),
-        Stage::FinishOff(s) => finish_off_turn(m, s.step(ack, reply[0])),
+        Stage::FinishOff(s) => finish_off_turn(m, flipping::step(s, ack, reply[0])),
         Stage::FinishStatus(stuck) => status_turn(m, stuck, ack, reply[0]),
         Stage::FinishWipe(stuck, s) => finish_turn(m, stuck, scrubbing::step(s, ack, reply)),
     }

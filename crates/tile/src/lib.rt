@@ -7,8 +7,8 @@ ghost use Rattle.part.specs.Part.{withBusy};
 ghost use Rattle.simulated.specs.Simulated.{wrote, memoryWrote, didRead, outRead, phoned, memoryPhoned, poweredUp, memoryLeft};
 ghost use Rattle.tens.specs.Tens.{flag, numberOf, registersOf, tileOf};
 ghost use Rattle.tile.specs.Acked.{acked};
+use numbered::tile_of;
 use tens::registers_of;
-use tens::tile_of;
 
 // GPO1, RF_MNGT, I2C_CFG, RF_MNGT_Dyn; session open, write reported; milliseconds left of the cycle; its kind, place, and size or old
 // byte.
@@ -64,7 +64,7 @@ pub extern "C" fn skp_tile_read(
 pub extern "C" fn skp_tile_wait(tile: &mut Tile, ms: usize)
     ensures { λ _. ⌜ now (tile .exit) ≡ tileOf (withBusy (registersOf (now (tile .entry)) .busy - ms) (registersOf (now (tile .entry)))) ⌝ }
 {
-    *tile = tile_of(power::wait(registers_of(tile), ms));
+    *tile = tile_of(passing::wait(registers_of(tile), ms));
 }
 
 // A phone writes `bytes` from `at` on. With RF off, or past the memory, nothing changes.

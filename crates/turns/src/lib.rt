@@ -6,7 +6,7 @@ use machine::switch::Switch;
 use machine::wait::Waited;
 use protocol::answer::Answer;
 use protocol::answer::TagError;
-use scan::zeros::high_water;
+use reach::high_water;
 use setup::setup::SetupStep;
 use stages::stage::Stage;
 use stages::stage::Turn;

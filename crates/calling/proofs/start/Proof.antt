@@ -3,17 +3,17 @@ use Rattle.calling.proofs.start.Statement.{statement}
 use Rattle.calling.proofs.start.Tie as tie
 use Rattle.calling.proofs.start.Reads as reads
 use Rattle.calling.proofs.start.Lts as lts
-use Rattle.bare.proofs.begin.Reads as begin-reads
-use Rattle.bare.proofs.finish.Reads as finish-reads
-use Rattle.bare.proofs.go_live.Reads as go-live-reads
+use Rattle.visits.proofs.begin.Reads as begin-reads
+use Rattle.visits.proofs.finish.Reads as finish-reads
+use Rattle.visits.proofs.go_live.Reads as go-live-reads
 use Rattle.bare.proofs.identify.Reads as identify-reads
-use Rattle.bare.proofs.prepare.Reads as prepare-reads
+use Rattle.readying.proofs.prepare.Reads as prepare-reads
 use Rattle.ranged.proofs.read_user.Reads as read-user-reads
 use Rattle.ranged.proofs.read_whole.Reads as read-whole-reads
 use Rattle.bare.proofs.rf_off.Reads as rf-off-reads
 use Rattle.bare.proofs.rf_on.Reads as rf-on-reads
 use Rattle.bare.proofs.rf_wrote.Reads as rf-wrote-reads
-use Rattle.bare.proofs.scrub.Reads as scrub-reads
+use Rattle.readying.proofs.scrub.Reads as scrub-reads
 use Rattle.bare.proofs.wait_ready.Reads as wait-ready-reads
 use Rattle.ranged.proofs.write.Reads as write-reads
 

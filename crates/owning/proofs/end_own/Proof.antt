@@ -7,8 +7,8 @@ use Rattle.restoring.proofs.switch_from.Reads as switch-from-reads
 use Rattle.flattening.proofs.bit.Reads as bit-reads
 use Rattle.flattening.proofs.code.Reads as code-reads
 use Rattle.flattening.proofs.switch_code.Reads as switch-code-reads
-use Rattle.owning.proofs.nowhere.Reads as nowhere-reads
-use Rattle.owning.proofs.scrub_own.Reads as scrub-own-reads
+use Rattle.agreeing.proofs.nowhere.Reads as nowhere-reads
+use Rattle.midway.proofs.scrub_own.Reads as scrub-own-reads
 use mathlib.Core.Path.{refl, ap, _∙_}
 use mathlib.Core.Bool.{_&&_}
 use Prim.Native.Nat.{ℕ}
@@ -16,7 +16,7 @@ use lib.Dec.{eqb}
 use Rattle.numbers.specs.Flat.{bitOf, codeOf, noCode, scrubCode, scrubPlace, switchCode}
 use Rattle.numbers.specs.From.{scrubFrom, switchFrom}
 use Rattle.state.specs.Bytes.{sameCode, samePlace}
-use Rattle.owning.proofs.Owns.{endAt, at-tag, by-code, end-switch, end-other}
+use Rattle.agreeing.proofs.Owns.{endAt, at-tag, by-code, end-switch, end-other}
 
 switch-from-requires : tie.Need-switch-from-requires
 switch-from-requires c κs = search needs

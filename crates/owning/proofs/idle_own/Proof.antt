@@ -4,10 +4,10 @@ use Rattle.owning.proofs.idle_own.Tie as tie
 use Rattle.owning.proofs.idle_own.Reads as reads
 use Rattle.owning.proofs.idle_own.Lts as lts
 use Rattle.flattening.proofs.code.Reads as code-reads
-use Rattle.owning.proofs.nowhere.Reads as nowhere-reads
+use Rattle.agreeing.proofs.nowhere.Reads as nowhere-reads
 use mathlib.Core.Path.{refl}
 use Rattle.numbers.specs.Flat.{noCode}
-use Rattle.owning.proofs.Owns.{idleAt, by-code, idle-other}
+use Rattle.agreeing.proofs.Owns.{idleAt, by-code, idle-other}
 
 code-requires : tie.Need-code-requires
 code-requires c κs = search needs

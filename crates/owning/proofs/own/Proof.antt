@@ -6,7 +6,7 @@ use Rattle.owning.proofs.own.Lts as lts
 use Rattle.owning.proofs.end_own.Reads as end-own-reads
 use Rattle.owning.proofs.idle_own.Reads as idle-own-reads
 use Rattle.owning.proofs.start_own.Reads as start-own-reads
-use Rattle.owning.proofs.whole_own.Reads as whole-own-reads
+use Rattle.midway.proofs.whole_own.Reads as whole-own-reads
 use borrow.Author.Tests.{lt-ltb, le-ltb}
 
 idle-own-requires : tie.Need-idle-own-requires

@@ -10,13 +10,13 @@ use Rattle.flattening.proofs.code.Reads as code-reads
 use Rattle.flattening.proofs.setup_code.Reads as setup-code-reads
 use Rattle.flattening.proofs.switch_code.Reads as switch-code-reads
 use Rattle.flattening.proofs.wait_code.Reads as wait-code-reads
-use Rattle.owning.proofs.nowhere.Reads as nowhere-reads
+use Rattle.agreeing.proofs.nowhere.Reads as nowhere-reads
 use Rattle.owning.proofs.read_own.Reads as read-own-reads
 use Rattle.owning.proofs.write_own.Reads as write-own-reads
 use mathlib.Core.Path.{refl, ap, _∙_}
 use Rattle.numbers.specs.Flat.{noCode, setupCode, waitCode, switchCode}
 use Rattle.numbers.specs.From.{setupFrom, waitFrom, switchFrom}
-use Rattle.owning.proofs.Owns.{startAt, at-tag, by-code, start-other}
+use Rattle.agreeing.proofs.Owns.{startAt, at-tag, by-code, start-other}
 
 code-requires : tie.Need-code-requires
 code-requires c κs = search needs

@@ -4,7 +4,7 @@ use Rattle.replying.proofs.reply.Tie as tie
 use Rattle.replying.proofs.reply.Reads as reads
 use Rattle.replying.proofs.reply.Lts as lts
 use Rattle.replying.proofs.by_stage.Reads as by-stage-reads
-use Rattle.shortcut.proofs.leave.Reads as leave-reads
+use Rattle.leaving.proofs.leave.Reads as leave-reads
 use Rattle.shortcut.proofs.next_of.Reads as next-of-reads
 use mathlib.Core.Path.{refl, sym, subst}
 use denote.Ref.{now}

@@ -1,0 +1,67 @@
+use borrow.Author.Needs.{needs}
+use Rattle.leaving.proofs.leave.Statement.{statement}
+use Rattle.leaving.proofs.leave.Tie as tie
+use Rattle.leaving.proofs.leave.Reads as reads
+use Rattle.leaving.proofs.leave.Lts as lts
+use Rattle.slices.proofs.copy_to.Reads as copy-to-reads
+use Rattle.state.proofs.bytes.bytes.Reads as bytes-reads
+use Rattle.framing.proofs.frame.Reads as frame-reads
+use Rattle.telling.proofs.step.ask_step.Reads as ask-step-reads
+use Rattle.scrubbing.proofs.ask.Reads as ask-reads
+use Rattle.telling.specs.Step.{AskFits}
+use mathlib.Core.Path.{subst, sym}
+use denote.Ref.{now}
+use Rattle.wiping.proofs.Shorts.{scrub-fits, leave-is}
+
+bytes-requires : tie.Need-bytes-requires
+bytes-requires c κs = search needs
+
+slice-aggregate-copy-to : tie.Need-slice-aggregate-copy-to
+slice-aggregate-copy-to c = search needs
+
+copy-to-requires : tie.Need-copy-to-requires
+copy-to-requires c κs = search needs
+
+ask-requires : tie.Need-ask-requires
+ask-requires c κs = search needs
+
+slice-aggregate-frame : tie.Need-slice-aggregate-frame
+slice-aggregate-frame c = search needs
+
+frame-requires : tie.Need-frame-requires
+frame-requires c κs = subst (AskFits 0) (sym (c .before .before .ask .ensures)) (scrub-fits 0 (c .before .before .before .before .before .before .before .before .before .before .before .args .s))
+
+slice-aggregate-copy-to-2 : tie.Need-slice-aggregate-copy-to-2
+slice-aggregate-copy-to-2 c = search needs
+
+copy-to-requires-2 : tie.Need-copy-to-requires-2
+copy-to-requires-2 c κs = search needs
+
+ask-step-requires : tie.Need-ask-step-requires
+ask-step-requires c κs = subst (AskFits 8192) (sym (c .before .before .before .before .before .before .before .ask .ensures)) (scrub-fits 8192 (c .before .before .before .before .before .before .before .before .before .before .before .before .before .before .before .before .args .s))
+
+same-length : tie.Need-same-length
+same-length c = search needs
+
+same-length-2 : tie.Need-same-length-2
+same-length-2 c = search needs
+
+returns : tie.Need-returns
+returns c = let h = leave-is (c .before .before .before .before .before .before .before .before .before .before .before .before .before .before .before .before .before .args .s) (c .before .before .before .before .before .before .before .before .before .before .before .before .before .before .before .before .before .args .f) (c .before .before .before .before .before .before .before .before .ask .result) (c .before .before .before .before .before .before .before .before .before .before .before .before .before .bytes .result) (now (c .before .before .before .before .before .before .before .before .before .before .before .before .before .before .before .before .before .args .state)) _ _ (c .before .before .before .before .before .frame .result) (now (c .before .before .before .before .before .before .before .before .before .before .before .before .before .before .before .before .before .args .transfer)) _ _ (c .ask-step .result) (c .before .before .before .before .before .before .before .before .before .before .before .before .before .before .before .before .before .pre .0) (c .before .before .before .before .before .before .before .before .before .before .before .before .before .bytes .ensures) (c .before .before .before .before .before .before .before .before .before .before .before .copy-to .ensures) (c .before .before .before .before .before .before .before .before .ask .ensures) (c .before .before .before .before .before .frame .ensures) (c .before .before .before .copy-to2 .ensures) (c .ask-step .ensures) in (h .0, (h .1, h .2))
+
+pub leave-spec : {M : Type 1} → statement M
+leave-spec =
+    tie.close
+    (tie.spec
+    bytes-requires
+    slice-aggregate-copy-to
+    copy-to-requires
+    ask-requires
+    slice-aggregate-frame
+    frame-requires
+    slice-aggregate-copy-to-2
+    copy-to-requires-2
+    ask-step-requires
+    same-length
+    same-length-2
+    returns)
