@@ -24,7 +24,14 @@ fn back(s: &[u8], from: usize, w: usize) -> usize
 pub fn high_water(s: &[u8]) -> usize
     ensures { λ r. ⌜ r ≡ highWater (now (s .entry)) ⌝ }
 {
-    let mut n = back(s, back(s, s.len(), 64), 8);
+    let len = s.len();
+    if 0 < len {
+        // full to the end, as an image that was just read may be: no block is looked at
+        if s[len - 1] != 0 {
+            return len;
+        }
+    }
+    let mut n = back(s, back(s, len, 64), 8);
     while 0 < n {
         if s[n - 1] != 0 {
             return n;

@@ -9,10 +9,24 @@ use Rattle.scan.proofs.Highs.{back-on, back-one, reach-is}
 use native.Mathlib.Omega.{arith}
 
 abbrev Inv-loop : tie.InvT-loop
-Inv-loop s n₀ n = Back s n (length s)
+Inv-loop s len n₀ n = Back s n (length s)
 
 abbrev μ-loop : tie.MeasureT-loop
-μ-loop s n₀ n = n
+μ-loop s len n₀ n = n
+
+sub-if2 : tie.Need-sub-if2 Inv-loop μ-loop
+sub-if2 c = omega arith
+
+shared-slice-read-if2 : tie.Need-shared-slice-read-if2 Inv-loop μ-loop
+shared-slice-read-if2 c = omega arith
+
+-- the last byte is not zero
+returns : tie.Need-returns Inv-loop μ-loop
+returns c = reach-is _ _ (record {
+  inside = omega arith;
+  zeros = λ k p q. absurd (omega arith);
+  last = λ m e z. let q : length (now (c .before .before .before .before .args .s)) - 1 ≡ m = omega arith in c .if2 .taken (ap (λ (k : ℕ). getD (now (c .before .before .before .before .args .s)) k 0) q ∙ z);
+})
 
 back-requires : tie.Need-back-requires Inv-loop μ-loop
 back-requires c κs = (omega arith, omega arith)
@@ -23,17 +37,17 @@ back-requires-2 c κs = (c .back .ensures .below, omega arith)
 loop-holds : tie.Need-loop-holds Inv-loop μ-loop
 loop-holds c = back-on (c .back2 .ensures) (c .before .back .ensures)
 
-sub-if1 : tie.Need-sub-if1 Inv-loop μ-loop
-sub-if1 c = omega arith
+sub-if3 : tie.Need-sub-if3 Inv-loop μ-loop
+sub-if3 c = omega arith
 
-shared-slice-read-if1 : tie.Need-shared-slice-read-if1 Inv-loop μ-loop
-shared-slice-read-if1 c = let h = c .before .before .loop .inv .below in omega arith
+shared-slice-read-if3 : tie.Need-shared-slice-read-if3 Inv-loop μ-loop
+shared-slice-read-if3 c = let h = c .before .before .loop .inv .below in omega arith
 
-returns : tie.Need-returns Inv-loop μ-loop
-returns c = reach-is _ _ (record {
+returns-2 : tie.Need-returns-2 Inv-loop μ-loop
+returns-2 c = reach-is _ _ (record {
   inside = c .before .before .before .loop .inv .below;
   zeros = c .before .before .before .loop .inv .zeros;
-  last = λ m e z. let q : c .before .before .before .loop .n - 1 ≡ m = omega arith in c .if1 .taken (ap (λ (k : ℕ). getD (now (c .before .before .before .before .before .before .before .args .s)) k 0) q ∙ z);
+  last = λ m e z. let q : c .before .before .before .loop .n - 1 ≡ m = omega arith in c .if3 .taken (ap (λ (k : ℕ). getD (now (c .before .before .before .before .before .before .before .before .args .s)) k 0) q ∙ z);
 })
 
 sub-n : tie.Need-sub-n Inv-loop μ-loop
@@ -45,10 +59,10 @@ loop-less c = omega arith
 loop-again : tie.Need-loop-again Inv-loop μ-loop
 loop-again c =
     let q : c .before .before .before .loop .n - 1 + 1 ≡ c .before .before .before .loop .n = omega arith in
-    back-on (subst (λ (m : ℕ). Back (now (c .before .before .before .before .before .before .before .args .s)) (c .before .before .before .loop .n - 1) m) q (back-one _ _ (c .if1 .left))) (c .before .before .before .loop .inv)
+    back-on (subst (λ (m : ℕ). Back (now (c .before .before .before .before .before .before .before .before .args .s)) (c .before .before .before .loop .n - 1) m) q (back-one _ _ (c .if3 .left))) (c .before .before .before .loop .inv)
 
-returns-2 : tie.Need-returns-2 Inv-loop μ-loop
-returns-2 c = reach-is _ _ (record {
+returns-3 : tie.Need-returns-3 Inv-loop μ-loop
+returns-3 c = reach-is _ _ (record {
   inside = omega arith;
   zeros = λ k p q. c .before .loop .inv .zeros k (omega arith) q;
   last = λ m e z. omega arith;
@@ -60,13 +74,16 @@ high-water-spec =
     (tie.spec
     Inv-loop
     μ-loop
+    sub-if2
+    shared-slice-read-if2
+    returns
     back-requires
     back-requires-2
     loop-holds
-    sub-if1
-    shared-slice-read-if1
-    returns
+    sub-if3
+    shared-slice-read-if3
+    returns-2
     sub-n
     loop-less
     loop-again
-    returns-2)
+    returns-3)

@@ -1,0 +1,9 @@
+use mathlib.Core.Path.{refl}
+use Rattle.opening.proofs.short.Statement.{statement}
+use Rattle.opening.proofs.short.Tie as tie
+
+returns : tie.Need-returns
+returns c = refl
+
+pub short-spec : {M : Type 1} → statement M
+short-spec = tie.close (tie.spec returns)
