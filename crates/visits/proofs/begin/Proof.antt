@@ -1,0 +1,9 @@
+use mathlib.Core.Path.{refl}
+use Rattle.visits.proofs.begin.Statement.{statement}
+use Rattle.visits.proofs.begin.Tie as tie
+
+returns : tie.Need-returns
+returns c = refl
+
+pub begin-spec : {M : Type 1} → statement M
+begin-spec = tie.close (tie.spec returns)
