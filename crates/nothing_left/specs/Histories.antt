@@ -10,7 +10,7 @@ use Prim.Native.Nat.{ℕ}
 use Rattle.protocol.specs.Mark.{Mark}
 use Rattle.protocol.specs.Call.{Call}
 use Rattle.part.specs.Part.{Part, ThePart}
-use Rattle.part.specs.Power.{Visit, visited, Left, cut}
+use Rattle.part.specs.Power.{Visit, visited, Torn, cut}
 use Rattle.nothing_left.specs.Programs.{Program}
 use Rattle.nothing_left.specs.Trees.{treeOf}
 use Rattle.nothing_left.specs.Runs.{Moments, partAfter}
@@ -18,7 +18,7 @@ use Rattle.nothing_left.specs.Runs.{Moments, partAfter}
 pub data Event : Type 0 where
   calls : Call → Mark → ℕ → Moments → Event
   phones : Visit → Event
-  cuts : Left → Event
+  cuts : Torn → Event
 
 abbrev pub happened : Program → Event → Part → Part
 happened t (calls c m n w) p = partAfter n (t c m) p w
@@ -30,7 +30,7 @@ lived t [] p = p
 lived t (e ∷ es) p = lived t es (happened t e p)
 
 pub data PowerUpBy (t : Program) : Part → Type 0 where
-  up : {p : Part} → ThePart p → (es : List Event) (l : Left) → PowerUpBy t (cut l (lived t es p))
+  up : {p : Part} → ThePart p → (es : List Event) (l : Torn) → PowerUpBy t (cut l (lived t es p))
 
 abbrev pub PowerUp : Part → Type 0
 PowerUp = PowerUpBy treeOf

@@ -17,7 +17,7 @@ use Rattle.part.specs.Part.{Part, ThePart, Sound, byteAt, fits, free, rf
 use Rattle.part.specs.Orders.{orderOf, inRow, takes, accepted, ordered, stored}
 use Rattle.part.specs.Looks.{lookOf, looked, answered}
 use Rattle.part.specs.Bus.{afterOf}
-use Rattle.part.specs.Power.{Visit, still, writes, visited, reached, Left, powered, tornByte, tornRow, cut}
+use Rattle.part.specs.Power.{Visit, still, writes, visited, reached, Torn, powered, tornByte, tornRow, cut}
 use Rattle.part.specs.declared.registers.Registers.{Registers}
 use Rattle.part.specs.declared.registers.Cycle.{Cycle}
 use Rattle.part.specs.declared.registers.Cycle.the-variants as cycle
@@ -141,7 +141,7 @@ sane-torn (cycle.Byte at v) false r f s = s
 sane-powered : (r : Registers) → Sane r → Sane (powered r)
 sane-powered r s = record { cfg = s .cfg; mngt = s .mngt; busy = omega arith; cycle = tt }
 
-pub stays-cut : (l : Left) (p : Part) → ThePart p → ThePart (cut l p)
+pub stays-cut : (l : Torn) (p : Part) → ThePart p → ThePart (cut l p)
 stays-cut l p t =
     the-part p _ _ t
     (pick-cases (λ (M : List ℕ). length M ≡ 8192) (free (p .registers)) (λ _. t .bytes) (λ _. torn-length (p .registers .cycle) (l .bytes) (p .memory) (t .bytes)))

@@ -3,7 +3,7 @@
 --   Visit                  == what a phone does between two transfers: nothing, or bytes written from a place on. Since the bytes may
 --                             be the whole memory, this is every change of user bytes
 --   visited v p            == the part after it. With RF off, or past the memory, a phone changes nothing
---   Left                   == what a cut leaves inside a cycle: bytes in the place of those of the row write that runs, as many as
+--   Torn                   == what a cut leaves inside a cycle: bytes in the place of those of the row write that runs, as many as
 --                             there are; whether a system byte is the old one
 --   powered r              == the registers at power-up
 --   cut l p                == the part after a cut and power-up
@@ -43,7 +43,7 @@ visited (writes at bs) p = record {
   registers = registersVisited at (length bs) (p .registers);
 }
 
-pub record Left : Type 0 where
+pub record Torn : Type 0 where
   pub bytes : List ℕ
   pub old : Bool
 
@@ -68,7 +68,7 @@ registersCut old r = powered (if free r then r else tornByte (r .cycle) old r)
 abbrev pub memoryCut : List ℕ → Registers → List ℕ → List ℕ
 memoryCut bs r memory = if free r then memory else tornRow (r .cycle) bs memory
 
-abbrev pub cut : Left → Part → Part
+abbrev pub cut : Torn → Part → Part
 cut l p = record {
   identity = p .identity;
   memory = memoryCut (l .bytes) (p .registers) (p .memory);

@@ -8,7 +8,7 @@ use borrow.Author.Tests.{eq-eqb}
 use Rattle.protocol.specs.Transfer.{write, writeRead, delay}
 use Rattle.part.specs.Part.{Part, ThePart, withBusy}
 use Rattle.part.specs.Bus.{replyOf, afterOf}
-use Rattle.part.specs.Power.{writes, visited, Left, cut}
+use Rattle.part.specs.Power.{writes, visited, Torn, cut}
 use Rattle.simulated.specs.Simulated.{both, wrote, memoryWrote, didRead, outRead, phoned, memoryPhoned, poweredUp, memoryLeft}
 
 module _ (p : Part) (t : ThePart p) where
@@ -41,6 +41,6 @@ module _ (p : Part) (t : ThePart p) where
   phones-as at bs = (rw (eq-eqb (length (p .memory)) 8192 (t .bytes)), rw (eq-eqb (length (p .memory)) 8192 (t .bytes)))
 
   -- a cut and power-up
-  pub cuts-as : (l : Left)
+  pub cuts-as : (l : Torn)
       → (poweredUp (l .old) (p .memory) (p .registers) ≡ cut l p .registers) × (memoryLeft (l .bytes) (p .memory) (p .registers) ≡ cut l p .memory)
   cuts-as l = (rw (eq-eqb (length (p .memory)) 8192 (t .bytes)), rw (eq-eqb (length (p .memory)) 8192 (t .bytes)))
