@@ -5,7 +5,9 @@
 --   Bus                 == what is done on the bus: bytes sent to an address; bytes sent, then so many read; a wait
 --   onBus x             == what the transfer x is there
 --   askedBy s t         == what the step s asks for, with the transfer buffer t
---   Act, act e          == what was done, whether it was acknowledged, and the bytes in the buffer that was to be read into; the exchange e so
+--   Act, act e, acts es == what was done, whether it was acknowledged, and the bytes in the buffer that was to be read into; the same of the
+--                          exchange e, of the exchanges es
+--   done l ack r out    == what the host does on what was left, l, where it hands in `ack`, the reply buffer r and `out`
 --   outFor c            == how many bytes `out` has in the call c
 --   Hosts lent o l es e == from what an entry point left, l, with the data `lent` and an `out` of o bytes: the host has done es so far, and
 --                          the last entry point left e. Its buffers keep their lengths; what stands in them, and whether the part
