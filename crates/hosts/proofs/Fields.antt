@@ -1,8 +1,8 @@
 -- A step is taken apart into what it was put together from.
-use mathlib.Core.Path.{_≡_, refl, sym, ap, ap₂, _∙_}
+use mathlib.Core.Path.{_≡_, refl, ap, _∙_}
 use mathlib.Core.Bool.{Bool, true, false}
 use mathlib.Core.List.{List, [], _∷_, _++_, append-assoc}
-use Prim.Native.Nat.{ℕ, _+_, _-_, _*_, _/_, _%_, _≤_, _<_}
+use Prim.Native.Nat.{ℕ, _-_, _<_}
 use native.Mathlib.Omega.{arith}
 use lib.Dec.{eqb}
 use lib.ListN.{length, take, drop, replicate, length-take}
@@ -13,7 +13,7 @@ use Rattle.protocol.specs.Scrub.{zeroRow}
 use Rattle.machine.specs.Ask.{meant}
 use Rattle.machine.specs.declared.ask.Ask.{Ask}
 use Rattle.machine.specs.declared.ask.Ask.the-variants as A
-use Rattle.hosts.specs.Hosts.{kindOf, addressOf, sendOf, readOf, delayOf, Bus, sends, reads, waits, onBus, askedBy}
+use Rattle.hosts.specs.Hosts.{kindOf, addressOf, sendOf, readOf, delayOf, sends, reads, waits, onBus, askedBy}
 use Rattle.telling.specs.Step.{stepOf, answerStep, transferStep, padded, AskFits}
 
 pub kind-is : (k a b c : ℕ) → k < 256 → kindOf (stepOf k a b c) ≡ k

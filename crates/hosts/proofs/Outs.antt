@@ -12,7 +12,6 @@ use Rattle.protocol.specs.Mark.{Mark, whole, widened, isNone, wipeEnd}
 use Rattle.protocol.specs.Write.{past}
 use Rattle.protocol.specs.Call.{Call}
 use Rattle.protocol.specs.Call as call
-use Rattle.protocol.specs.declared.answer.Answer.{Answer}
 use Rattle.protocol.specs.declared.answer.Answer.the-variants.{Done, Not}
 use Rattle.protocol.specs.declared.answer.TagError.the-variants.{NotTaken}
 use Rattle.machine.specs.Ask.{first}

@@ -1,7 +1,7 @@
 -- Whatever a host does that carries the steps out: the bus sees the definition's transfers, and the answer, the rows and the mark are its own.
 use mathlib.Core.Path.{_≡_, refl, sym, ap, ap₂, subst, _∙_}
 use mathlib.Core.Bool.{Bool, true, false, not}
-use mathlib.Core.List.{List, [], _∷_, _++_}
+use mathlib.Core.List.{List, _∷_, _++_}
 use Prim.Native.Nat.{ℕ, _+_, _-_, _≤_}
 use native.Mathlib.Omega.{arith}
 use lib.Dec.{eqb}
@@ -11,8 +11,7 @@ use Rattle.protocol.specs.Transfer.{Transfer, Reply, writeRead, place, sent}
 use Rattle.protocol.specs.Tag.{user, userMemory}
 use Rattle.protocol.specs.Mark.{Mark}
 use Rattle.protocol.specs.Call.{Call}
-use Rattle.protocol.specs.Calls.{callOf}
-use Rattle.protocol.specs.Trace.{Exchange, trace, End}
+use Rattle.protocol.specs.Trace.{Exchange, End}
 use Rattle.protocol.specs.Answer.{answerNumber, answerValue}
 use Rattle.stages.specs.Turns.{stageAsk, stageStep, startOf, lentTo}
 use Rattle.stages.specs.Able.{gotBy}
@@ -21,7 +20,7 @@ use Rattle.stages.specs.declared.stage.Stage.the-variants as G
 use Rattle.stages.specs.declared.stage.Turn.{Turn}
 use Rattle.stages.specs.declared.stage.Turn.the-variants.{Open, Over}
 use Rattle.session.specs.Sound.{sound}
-use Rattle.session.specs.Steps.{idle, entered, counted, outOf}
+use Rattle.session.specs.Steps.{idle, entered, counted}
 use Rattle.session.specs.declared.session.Now.the-variants as N
 use Rattle.state.specs.Bytes.{encode, decodeOf}
 use Rattle.state.specs.declared.decode.Decoded.the-variants.{State}

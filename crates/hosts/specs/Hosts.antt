@@ -1,5 +1,7 @@
 -- A host, as the loop in include/skipnadur.h: it has the step's number, the state's bytes and its own buffers, and nothing else. It takes
--- the step apart, does on the bus what it says, hands the reply in, and stops at an answer.
+-- the step apart, does on the bus what it says, hands the reply in, and stops at an answer. Source: document 01, the paragraph 'Added' of
+-- 'A session's transfers'; the loop and the helpers of include/skipnadur.h. Document 01 asks more of a host: here what it puts into reply
+-- buffer and `out` is anything, and so is its answer after a delay.
 --
 --   kindOf s, addressOf s, sendOf s, readOf s, delayOf s == the fields of the step s, as the header's helpers take them out
 --   Bus                 == what is done on the bus: bytes sent to an address; bytes sent, then so many read; a wait
@@ -17,7 +19,7 @@
 --                          rows and mark
 --   Agrees c m es e     == so far es is the beginning of that run, never longer than it, and all of it once a step is an answer
 use mathlib.Core.Path.{_≡_}
-use mathlib.Core.Bool.{Bool, false, not}
+use mathlib.Core.Bool.{false, not}
 use mathlib.Core.List.{List, [], _∷_, _++_}
 use Prim.Native.Nat.{ℕ, zero, suc, _/_, _%_, _≤_}
 use lib.Dec.{eqb}
