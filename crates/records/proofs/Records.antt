@@ -3,7 +3,9 @@
 --   record-there   == a record that is parsed ends inside the bytes, and takes some of them
 --   none           == no bytes are a record cut short
 --   long-way       == any other record, by the lengths of its head, its id and its payload
---   short-way      == where the record is short and has no id, its head takes three bytes and the payload's length is the third
+--   short-way      == where the record is short, has no id and is not the last, its head takes three bytes and the payload's length is
+--                     the third
+--   more-follow    == such a record is not the last
 use mathlib.Core.Path.{_≡_, subst}
 use mathlib.Core.Bool.{false}
 use mathlib.Core.List.{List}
@@ -45,11 +47,16 @@ pub none : (s : List ℕ) → length s ≡ 0 → parsed.Truncated ≡ parseOf s
 unfolding parseOf headLen
 none s e = rw (List·getD-eq-default s 0 {n = 0} (omega arith), e)
 
-pub short-way : (s : List ℕ) → flag 0x20 (getD s 0 0) ≡ false → 3 ≤ length s → getD s 0 0 / 8 % 4 ≡ 2
+pub more-follow : (h : ℕ) → h / 8 % 16 ≡ 2 → false ≡ flag 0x40 h
+more-follow h e =
+    let z : h / 64 % 2 ≡ 0 = omega arith in
+    rw z
+
+pub short-way : (s : List ℕ) → flag 0x20 (getD s 0 0) ≡ false → 3 ≤ length s → getD s 0 0 / 8 % 16 ≡ 2
     → wholeOf s (getD s 0 0) 3 0 (getD s 2 0) ≡ parseOf s
 unfolding parseOf idLen payloadLen
 short-way s chunk long e =
-    let f = short-no-id (getD s 0 0) e in
+    let f = short-no-id (getD s 0 0) (omega arith) in
     let h : headLen (getD s 0 0) ≡ 3 = head-at (getD s 0 0) (f .0) (f .1) in
     simp (chunk, h, le-ltb _ _ long, f .0, f .1)
 

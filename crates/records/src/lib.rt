@@ -2,6 +2,7 @@
 ghost use mathlib.Core.Path.{_≡_};
 ghost use Prim.Native.Nat.{_≤_, _<_, _^_};
 ghost use lib.ListN.{length};
+ghost use Rattle.heads.specs.Heads.{flag};
 ghost use Rattle.records.specs.Parse.{wholeOf, parseOf, numberOf};
 use heads::head_len;
 use heads::id_len;
@@ -39,7 +40,8 @@ pub fn number(p: Parsed) -> u8
 }
 
 // The record, once its lengths are known: 13 where its parts run past the bytes.
-fn whole(s: &[u8], h: u8, kind: usize, id_len: usize, payload_len: usize) -> Parsed
+fn whole(s: &[u8], h: u8, last: bool, kind: usize, id_len: usize, payload_len: usize) -> Parsed
+    requires { ⌜ last ≡ flag 0x40 h ⌝ }
     requires { ⌜ (1 < length (now s)) × ((kind ≤ 7) × ((«id_len» < 256) × («payload_len» < 2 ^ 32))) ⌝ }
     ensures { λ r. ⌜ r ≡ wholeOf (now (s .entry)) h kind «id_len» «payload_len» ⌝ }
 {
@@ -49,7 +51,7 @@ fn whole(s: &[u8], h: u8, kind: usize, id_len: usize, payload_len: usize) -> Par
     }
     Parsed::Record(Record {
         format: h % 8,
-        last: h / 64 % 2 == 1,
+        last,
         kind,
         kind_len,
         id_len,
@@ -57,7 +59,8 @@ fn whole(s: &[u8], h: u8, kind: usize, id_len: usize, payload_len: usize) -> Par
     })
 }
 
-// The record at the front of `bytes`. Most are short and have no id: they take the first way.
+// The record at the front of `bytes`. Most are short, have no id and are not the last: they take the first way, on which the compiler
+// knows that another follows.
 pub fn parse_record(bytes: &[u8]) -> Parsed
     ensures { λ r. ⌜ r ≡ parseOf (now (bytes .entry)) ⌝ }
 {
@@ -71,8 +74,8 @@ pub fn parse_record(bytes: &[u8]) -> Parsed
     if bytes.len() < 3 {
         return Parsed::Truncated;
     }
-    if h / 8 % 4 == 2 {
-        return whole(bytes, h, 3, 0, wide(bytes[2]));
+    if h / 8 % 16 == 2 {
+        return whole(bytes, h, false, 3, 0, wide(bytes[2]));
     }
     let kind = head_len(h);
     if bytes.len() < kind {
@@ -80,5 +83,5 @@ pub fn parse_record(bytes: &[u8]) -> Parsed
     }
     let id = id_len(bytes, h);
     let payload = payload_len(bytes, h);
-    whole(bytes, h, kind, id, payload)
+    whole(bytes, h, h / 64 % 2 == 1, kind, id, payload)
 }

@@ -14,7 +14,7 @@ pub fn inside(b: u8, lo: u8, hi: u8) -> bool
 }
 
 // `n` where the test holds, else 0.
-fn when(ok: bool, n: usize) -> usize
+pub fn when(ok: bool, n: usize) -> usize
     ensures { λ r. ⌜ r ≡ pick ok n 0 ⌝ }
 {
     if ok {

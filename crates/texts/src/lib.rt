@@ -1,5 +1,6 @@
 // Whether bytes are well-formed UTF-8.
-// The check is one pass: blocks of ASCII bytes and runs of frequent characters are passed at once, each other character by its row.
+// The check is one pass: blocks of ASCII, blocks of characters of one and two bytes, and runs of frequent characters are passed at
+// once, each other character by its row.
 ghost use mathlib.Core.Path.{_≡_};
 ghost use mathlib.Core.Bool.{true};
 ghost use Prim.Native.Nat.{_+_, _≤_, _<_};
@@ -7,6 +8,7 @@ ghost use lib.ListN.{length};
 ghost use Rattle.utf8.specs.Utf8.{utf8};
 ghost use Rattle.utf8.specs.Skips.{Skips};
 use characters::first_len;
+use narrow::past_narrow;
 use tails::inside;
 use tails::rest;
 
@@ -24,15 +26,12 @@ fn all_ascii(s: &[u8], i: usize, n: usize) -> bool
     ok
 }
 
-// The `n` bytes from `i` are a frequent piece of text: for 2 a character of the table's second row (Greek, Cyrillic, letters with
-// accents), for 3 one of the fourth (most of Chinese, Japanese and Korean), for 4 one of the seventh (most emoji), else ASCII alone.
+// The `n` bytes from `i` are a frequent piece of text: for 3 a character of the table's fourth row (most of Chinese, Japanese and
+// Korean), for 4 one of the seventh (most emoji), else ASCII alone.
 fn is_piece(s: &[u8], i: usize, n: usize) -> bool
     requires { ⌜ i + n ≤ length (now s) ⌝ }
     ensures { λ r. ⌜ (r ≡ true → Skips (now (s .entry)) i (i + n)) ⌝ }
 {
-    if n == 2 {
-        return inside(s[i], 0xC2, 0xDF) & (rest(s, i, 2, 0x80, 0xBF) == 2);
-    }
     if n == 3 {
         return inside(s[i], 0xE1, 0xEC) & (rest(s, i, 3, 0x80, 0xBF) == 3);
     }
@@ -59,7 +58,8 @@ fn past_pieces(s: &[u8], from: usize, n: usize) -> usize
 }
 
 // After a character of `n` bytes: past its like. Blocks of ASCII are tried at every eighth byte alone, so that single ASCII bytes
-// among others cost little.
+// among others cost little. After a character of two bytes, blocks of 32 bytes of characters of one and two: shorter ones cost more in
+// text of that kind, longer ones are tried in vain where text of another kind is near.
 fn past_like(s: &[u8], i: usize, n: usize) -> usize
     requires { ⌜ i ≤ length (now s) ⌝ }
     ensures { λ r. ⌜ Skips (now (s .entry)) i r ⌝ }
@@ -71,7 +71,7 @@ fn past_like(s: &[u8], i: usize, n: usize) -> usize
         return past_pieces(s, i, 8);
     }
     if n == 2 {
-        return past_pieces(s, i, 2);
+        return past_narrow(s, i, 32);
     }
     if n == 3 {
         return past_pieces(s, i, 3);

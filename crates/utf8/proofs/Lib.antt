@@ -1,5 +1,6 @@
 pub mod Examples
 pub mod Grammar
+pub mod Narrow
 pub mod Places
 pub mod Rows
 pub mod Skips

@@ -9,7 +9,7 @@ use borrow.Author.Tests.{eq-eqb, ne-eqb, lt-ltb}
 use Rattle.heads.specs.Heads.{headLen}
 use Rattle.records.specs.Parse.{wholeOf, parseOf}
 use Rattle.heads.proofs.Heads.{head-least}
-use Rattle.records.proofs.Records.{none, short-way, long-way}
+use Rattle.records.proofs.Records.{none, more-follow, short-way, long-way}
 use native.Mathlib.Omega.{arith}
 
 returns : tie.Need-returns
@@ -35,7 +35,7 @@ wide-requires : tie.Need-wide-requires
 wide-requires c κs = search needs
 
 whole-requires : tie.Need-whole-requires
-whole-requires c κs = search needs
+whole-requires c κs = (more-follow (getD (now (c .before .before .before .before .before .before .before .before .args .bytes)) 0 0) (c .before .before .if4 .taken), search needs)
 
 returns-4 : tie.Need-returns-4
 returns-4 c =

@@ -33,7 +33,7 @@ returns-2 : tie.Need-returns-2
 unfolding wholeOf
 returns-2 c = let s = now (c .before .before .before .before .args .s) in
     let h : c .before .before .before .before .args .kind + getD s 1 0 + c .before .before .before .before .args .id-len + c .before .before .before .before .args .payload-len ≤ length s = omega arith in
-    simp (le-ltb _ _ h) (rw (c .before .wide .ensures .0))
+    simp (le-ltb _ _ h) (rw (c .before .wide .ensures .0, c .before .before .before .before .pre .0))
 
 pub whole-spec : {M : Type 1} → statement M
 whole-spec =

@@ -1,4 +1,4 @@
--- A piece of 2, 3 or 4 bytes is a character of its row, by its first byte and its later bytes; any other piece is ASCII.
+-- A piece of 3 or 4 bytes is a character of its row, by its first byte and its later bytes; any other piece is ASCII.
 use native.Mathlib.Omega.{arith}
 use borrow.Author.Needs.{needs}
 use denote.Ref.{now}
@@ -19,7 +19,7 @@ rest-requires c κs = search needs
 
 returns : tie.Need-returns
 unfolding table
-returns c = let p = c .before .before .before .before .before in skips-row (now (p .args .s)) (p .args .i) (omega arith) (nth table 1 (omega arith)) (c .before .before .before .if1 .taken) (c .before .inside .ensures) (c .rest .ensures)
+returns c = let p = c .before .before .before .before .before in skips-row (now (p .args .s)) (p .args .i) (omega arith) (nth table 3 (omega arith)) (c .before .before .before .if1 .taken) (c .before .inside .ensures) (c .rest .ensures)
 
 shared-slice-read-inside-2 : tie.Need-shared-slice-read-inside-2
 shared-slice-read-inside-2 c = search needs
@@ -32,26 +32,13 @@ rest-requires-2 c κs = search needs
 
 returns-2 : tie.Need-returns-2
 unfolding table
-returns-2 c = let p = c .before .before .before .before .before .before in skips-row (now (p .args .s)) (p .args .i) (omega arith) (nth table 3 (omega arith)) (c .before .before .before .if2 .taken) (c .before .inside2 .ensures) (c .rest2 .ensures)
-
-shared-slice-read-inside-3 : tie.Need-shared-slice-read-inside-3
-shared-slice-read-inside-3 c = search needs
-
-inside-requires-3 : tie.Need-inside-requires-3
-inside-requires-3 c κs = search needs
-
-rest-requires-3 : tie.Need-rest-requires-3
-rest-requires-3 c κs = search needs
-
-returns-3 : tie.Need-returns-3
-unfolding table
-returns-3 c = let p = c .before .before .before .before .before .before .before in skips-row (now (p .args .s)) (p .args .i) (omega arith) (nth table 6 (omega arith)) (c .before .before .before .if3 .taken) (c .before .inside3 .ensures) (c .rest3 .ensures)
+returns-2 c = let p = c .before .before .before .before .before .before in skips-row (now (p .args .s)) (p .args .i) (omega arith) (nth table 6 (omega arith)) (c .before .before .before .if2 .taken) (c .before .inside2 .ensures) (c .rest2 .ensures)
 
 all-ascii-requires : tie.Need-all-ascii-requires
 all-ascii-requires c κs = search needs
 
-returns-4 : tie.Need-returns-4
-returns-4 c = search needs
+returns-3 : tie.Need-returns-3
+returns-3 c = search needs
 
 pub is-piece-spec : {M : Type 1} → statement M
 is-piece-spec =
@@ -65,9 +52,5 @@ is-piece-spec =
     inside-requires-2
     rest-requires-2
     returns-2
-    shared-slice-read-inside-3
-    inside-requires-3
-    rest-requires-3
-    returns-3
     all-ascii-requires
-    returns-4)
+    returns-3)
