@@ -3,11 +3,10 @@
 --   record-there   == a record that is parsed ends inside the bytes, and takes some of them
 --   none           == no bytes are a record cut short
 --   long-way       == any other record, by the lengths of its head, its id and its payload
---   short-way      == where the record is short, has no id and is not the last, its head takes three bytes and the payload's length is
---                     the third
---   more-follow    == such a record is not the last
+--   short-way      == a plain record's head takes three bytes, and the payload's length is the third
+--   more-follow    == a plain record is not the last
 use mathlib.Core.Path.{_≡_, subst}
-use mathlib.Core.Bool.{false}
+use mathlib.Core.Bool.{true, false}
 use mathlib.Core.List.{List}
 use Prim.Native.Nat.{ℕ, _+_, _/_, _%_, _≤_, _<_}
 use native.Mathlib.Omega.{arith}
@@ -19,8 +18,12 @@ use Rattle.records.specs.declared.Record.{Record}
 use Rattle.records.specs.declared.Parsed.{Parsed}
 use Rattle.records.specs.declared.Parsed.the-variants as parsed
 use Rattle.heads.specs.Heads.{flag, headLen, idLen, payloadLen}
-use Rattle.records.specs.Parse.{wholeOf, parseOf, endOf}
+use Rattle.records.specs.Parse.{wholeOf, parseOf, Plain, endOf}
 use Rattle.heads.proofs.Heads.{head-at, head-least, short-no-id}
+
+-- no test both failed and held
+pub never : {X : Type 0} → false ≡ true → X
+never e = absurd (let z : _≡_ {A = ℕ} 0 1 = cc in omega arith)
 
 abbrev Sound : List ℕ → Parsed → Type 0
 Sound s (parsed.Record r) = (2 < endOf r) × (endOf r ≤ length s)
@@ -47,18 +50,19 @@ pub none : (s : List ℕ) → length s ≡ 0 → parsed.Truncated ≡ parseOf s
 unfolding parseOf headLen
 none s e = rw (List·getD-eq-default s 0 {n = 0} (omega arith), e)
 
-pub more-follow : (h : ℕ) → h / 8 % 16 ≡ 2 → false ≡ flag 0x40 h
-more-follow h e =
-    let z : h / 64 % 2 ≡ 0 = omega arith in
+pub more-follow : (s : List ℕ) → Plain s → false ≡ flag 0x40 (getD s 0 0)
+more-follow s h =
+    let z : getD s 0 0 / 64 % 2 ≡ 0 = omega (arith, h .1) in
     rw z
 
-pub short-way : (s : List ℕ) → flag 0x20 (getD s 0 0) ≡ false → 3 ≤ length s → getD s 0 0 / 8 % 16 ≡ 2
-    → wholeOf s (getD s 0 0) 3 0 (getD s 2 0) ≡ parseOf s
+pub short-way : (s : List ℕ) → Plain s → wholeOf s (getD s 0 0) 3 0 (getD s 2 0) ≡ parseOf s
 unfolding parseOf idLen payloadLen
-short-way s chunk long e =
-    let f = short-no-id (getD s 0 0) (omega arith) in
+short-way s p =
+    let f = short-no-id (getD s 0 0) (omega (arith, p .1)) in
+    let z : getD s 0 0 / 32 % 2 ≡ 0 = omega (arith, p .1) in
+    let chunk : flag 0x20 (getD s 0 0) ≡ false = rw z in
     let h : headLen (getD s 0 0) ≡ 3 = head-at (getD s 0 0) (f .0) (f .1) in
-    simp (chunk, h, le-ltb _ _ long, f .0, f .1)
+    simp (chunk, h, le-ltb _ _ (p .0), f .0, f .1)
 
 pub long-way : (s : List ℕ) {k i p : ℕ} → k ≡ headLen (getD s 0 0) → i ≡ idLen s → p ≡ payloadLen s → flag 0x20 (getD s 0 0) ≡ false
     → headLen (getD s 0 0) ≤ length s → wholeOf s (getD s 0 0) k i p ≡ parseOf s

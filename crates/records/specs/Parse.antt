@@ -5,10 +5,12 @@
 --   wholeOf s h k i p         == that record, or Truncated where it runs past s
 --   parseOf s                 == the record at the front of s. The chunk flag is judged first; nothing, a head or a part that is not
 --                                all there is Truncated. Message-begin and the format are not judged
+--   Plain s                   == s begins with the head of a record that is short, has no id, is not split and is not the last
 --   endOf r                   == the place after the record r
 --   numberOf p                == document 01's number: 13, 14, and 0 for a record
+use mathlib.Core.Path.{_≡_}
 use mathlib.Core.List.{List}
-use Prim.Native.Nat.{ℕ, _+_, _%_}
+use Prim.Native.Nat.{ℕ, _+_, _/_, _%_, _<_}
 use lib.ListN.{length, getD}
 use lib.Dec.{ltb}
 use Rattle.slices.specs.Pick.{pick}
@@ -36,6 +38,10 @@ parseOf s =
     pick (flag 0x20 (getD s 0 0)) parsed.Chunked
     (pick (ltb (length s) (headLen (getD s 0 0))) parsed.Truncated
     (wholeOf s (getD s 0 0) (headLen (getD s 0 0)) (idLen s) (payloadLen s)))
+
+-- bits 3 to 6 of the header: 08 id, 10 short, 20 chunk, 40 last
+abbrev pub Plain : List ℕ → Type 0
+Plain s = (2 < length s) × (getD s 0 0 / 8 % 16 ≡ 2)
 
 abbrev pub endOf : Record → ℕ
 endOf r = r .kind + r .«kind_len» + r .«id_len» + r .«payload_len»

@@ -1,9 +1,10 @@
 // One record of a message: where its parts stand.
 ghost use mathlib.Core.Path.{_≡_};
+ghost use mathlib.Core.Bool.{true};
 ghost use Prim.Native.Nat.{_≤_, _<_, _^_};
 ghost use lib.ListN.{length};
 ghost use Rattle.heads.specs.Heads.{flag};
-ghost use Rattle.records.specs.Parse.{wholeOf, parseOf, numberOf};
+ghost use Rattle.records.specs.Parse.{wholeOf, parseOf, Plain, numberOf};
 use heads::head_len;
 use heads::id_len;
 use heads::payload_len;
@@ -59,8 +60,25 @@ fn whole(s: &[u8], h: u8, last: bool, kind: usize, id_len: usize, payload_len: u
     })
 }
 
-// The record at the front of `bytes`. Most are short, have no id and are not the last: they take the first way, on which the compiler
-// knows that another follows.
+// Most records are short, have no id and are not the last. So is the one at the front of `bytes`, and its head is all there.
+pub fn is_plain(bytes: &[u8]) -> bool
+    ensures { λ r. ⌜ (r ≡ true → Plain (now (bytes .entry))) ⌝ }
+{
+    if bytes.len() < 3 {
+        return false;
+    }
+    bytes[0] / 8 % 16 == 2
+}
+
+// Such a record. By itself, so that the compiler knows of it that another follows.
+pub fn plain_record(bytes: &[u8]) -> Parsed
+    requires { ⌜ Plain (now bytes) ⌝ }
+    ensures { λ r. ⌜ r ≡ parseOf (now (bytes .entry)) ⌝ }
+{
+    whole(bytes, bytes[0], false, 3, 0, wide(bytes[2]))
+}
+
+// The record at the front of `bytes`.
 pub fn parse_record(bytes: &[u8]) -> Parsed
     ensures { λ r. ⌜ r ≡ parseOf (now (bytes .entry)) ⌝ }
 {
@@ -70,12 +88,6 @@ pub fn parse_record(bytes: &[u8]) -> Parsed
     let h = bytes[0];
     if h / 32 % 2 == 1 {
         return Parsed::Chunked;
-    }
-    if bytes.len() < 3 {
-        return Parsed::Truncated;
-    }
-    if h / 8 % 16 == 2 {
-        return whole(bytes, h, false, 3, 0, wide(bytes[2]));
     }
     let kind = head_len(h);
     if bytes.len() < kind {

@@ -1,38 +1,50 @@
 use borrow.Author.Needs.{needs}
 use Rattle.walking.proofs.step.Statement.{statement}
 use Rattle.walking.proofs.step.Tie as tie
+use native.Mathlib.Omega.{arith}
 use borrow.Author.Tests.{le-leb, lt-leb, lt-ltb, le-ltb}
+use Rattle.records.proofs.Records.{never}
 use Rattle.walk.specs.Step.{stepOf}
 
 stopped-requires : tie.Need-stopped-requires
-stopped-requires c κs = search needs
+stopped-requires c κs = tt
 
 returns : tie.Need-returns
 unfolding stepOf
 returns c = simp (lt-ltb _ _ (c .before .if1 .taken)) (c .stopped .ensures)
 
 stopped-requires-2 : tie.Need-stopped-requires-2
-stopped-requires-2 c κs = search needs
+stopped-requires-2 c κs = tt
 
 returns-2 : tie.Need-returns-2
 unfolding stepOf
 returns-2 c = simp (le-ltb _ _ (c .before .before .if1 .left), le-leb _ _ (c .before .if2 .taken)) (c .stopped2 .ensures)
 
-sub-step-on : tie.Need-sub-step-on
-sub-step-on c = search needs
+sub-rest : tie.Need-sub-rest
+sub-rest c = search needs
 
-part-step-on-start : tie.Need-part-step-on-start
-part-step-on-start c = search needs
+part-rest-start : tie.Need-part-rest-start
+part-rest-start c = search needs
 
-part-step-on-end : tie.Need-part-step-on-end
-part-step-on-end c = search needs
+part-rest-end : tie.Need-part-rest-end
+part-rest-end c = search needs
+
+is-plain-requires : tie.Need-is-plain-requires
+is-plain-requires c κs = tt
 
 step-on-requires : tie.Need-step-on-requires
-step-on-requires c κs = search needs
+step-on-requires c κs = (λ e. c .before .is-plain .ensures (c .if3 .taken), search needs)
 
 returns-3 : tie.Need-returns-3
 unfolding stepOf
-returns-3 c = simp (le-ltb _ _ (c .before .before .before .if1 .left), lt-leb _ _ (c .before .before .if2 .left)) (c .step-on .ensures)
+returns-3 c = simp (le-ltb _ _ (c .before .before .before .before .before .if1 .left), lt-leb _ _ (c .before .before .before .before .if2 .left)) (c .step-on .ensures)
+
+step-on-requires-2 : tie.Need-step-on-requires-2
+step-on-requires-2 c κs = (λ e. never e, search needs)
+
+returns-4 : tie.Need-returns-4
+unfolding stepOf
+returns-4 c = simp (le-ltb _ _ (c .before .before .before .before .before .if1 .left), lt-leb _ _ (c .before .before .before .before .if2 .left)) (c .step-on2 .ensures)
 
 pub step-spec : {M : Type 1} → statement M
 step-spec =
@@ -42,8 +54,11 @@ step-spec =
     returns
     stopped-requires-2
     returns-2
-    sub-step-on
-    part-step-on-start
-    part-step-on-end
+    sub-rest
+    part-rest-start
+    part-rest-end
+    is-plain-requires
     step-on-requires
-    returns-3)
+    returns-3
+    step-on-requires-2
+    returns-4)

@@ -7,14 +7,14 @@ use Rattle.records.proofs.Records.{record-there}
 use Rattle.walk.specs.Step.{onParsed}
 use native.Mathlib.Omega.{arith}
 
-parse-record-requires : tie.Need-parse-record-requires
-parse-record-requires c κs = search needs
+parsed-requires : tie.Need-parsed-requires
+parsed-requires c κs = search needs
 
 enum-known-r : tie.Need-enum-known-r
 enum-known-r c = search needs
 
 record-at-requires : tie.Need-record-at-requires
-record-at-requires c κs = omega (arith, record-there (now (c .before .before .before .before .before .args .rest)) (sym (c .before .before .before .parse-record .ensures) ∙ c .before .r .given .1))
+record-at-requires c κs = omega (arith, record-there (now (c .before .before .before .before .before .args .rest)) (sym (c .before .before .before .parsed .ensures) ∙ c .before .r .given .1))
 
 enum-told : tie.Need-enum-told
 enum-told c = search needs
@@ -29,19 +29,19 @@ stopped-requires-2 : tie.Need-stopped-requires-2
 stopped-requires-2 c κs = search needs
 
 returns : tie.Need-returns
-returns c = c .record-at .ensures ∙ ap (onParsed (c .before .before .before .before .before .before .args .at) (c .before .before .before .before .before .before .args .end)) (sym (c .before .before .r .given .1) ∙ c .before .before .before .before .parse-record .ensures)
+returns c = c .record-at .ensures ∙ ap (onParsed (c .before .before .before .before .before .before .args .at) (c .before .before .before .before .before .before .args .end)) (sym (c .before .before .r .given .1) ∙ c .before .before .before .before .parsed .ensures)
 
 returns-2 : tie.Need-returns-2
-returns-2 c = c .stopped .ensures ∙ ap (onParsed (c .before .before .before .before .before .args .at) (c .before .before .before .before .before .args .end)) (sym (c .before .enum-told .given .1) ∙ c .before .before .before .parse-record .ensures)
+returns-2 c = c .stopped .ensures ∙ ap (onParsed (c .before .before .before .before .before .args .at) (c .before .before .before .before .before .args .end)) (sym (c .before .enum-told .given .1) ∙ c .before .before .before .parsed .ensures)
 
 returns-3 : tie.Need-returns-3
-returns-3 c = c .stopped2 .ensures ∙ ap (onParsed (c .before .before .before .before .before .args .at) (c .before .before .before .before .before .args .end)) (sym (c .before .enum-told2 .given .1) ∙ c .before .before .before .parse-record .ensures)
+returns-3 c = c .stopped2 .ensures ∙ ap (onParsed (c .before .before .before .before .before .args .at) (c .before .before .before .before .before .args .end)) (sym (c .before .enum-told2 .given .1) ∙ c .before .before .before .parsed .ensures)
 
 pub step-on-spec : {M : Type 1} → statement M
 step-on-spec =
     tie.close
     (tie.spec
-    parse-record-requires
+    parsed-requires
     enum-known-r
     record-at-requires
     enum-told
