@@ -5,6 +5,7 @@ use Prim.Native.Nat.{ℕ}
 use native.Mathlib.Omega.{arith}
 use lib.Dec.{eqb}
 use borrow.Author.Tests.{eqb-true, ne-eqb}
+use Rattle.slices.proofs.Truths.{either-no}
 use Rattle.numbers.specs.Flat.{noCode, noPlace, switchCode}
 use Rattle.numbers.specs.From.{switchFrom, startFrom, wholeFrom, endFrom}
 use Rattle.numbers.specs.declared.flat.Code.{Code}
@@ -65,14 +66,10 @@ module _ (c : Code) (p : Place) where
   start-other tag a2 a3 a4 a5 a6 a7 =
       rw (ne-eqb tag 2 a2, ne-eqb tag 3 a3, ne-eqb tag 4 a4, ne-eqb tag 5 a5, ne-eqb tag 6 a6, ne-eqb 7 tag (λ e. a7 (sym e)))
 
-  neither : (a b : Bool) → (a || b) ≡ false → (a ≡ false) × (b ≡ false)
-  neither true b e = absurd (let z : _≡_ {A = ℕ} 0 1 = cc in omega arith)
-  neither false b e = (refl, e)
-
   pub whole-other : (tag : ℕ) → (tag ≡ 9 → ⊥) → (tag ≡ 12 → ⊥) → (tag ≡ 13 → ⊥) → (eqb tag 8 || eqb tag 10 || eqb tag 11) ≡ false → false ≡ wholeAt tag
   whole-other tag a9 a12 a13 e =
-      let g = neither (eqb tag 8 || eqb tag 10) (eqb tag 11) e in
-      let h = neither (eqb tag 8) (eqb tag 10) (g .0) in
+      let g = either-no (eqb tag 8 || eqb tag 10) (eqb tag 11) e in
+      let h = either-no (eqb tag 8) (eqb tag 10) (g .0) in
       let e8 : eqb tag 8 ≡ false = h .0 in
       let e10 : eqb tag 10 ≡ false = h .1 in
       let e11 : eqb tag 11 ≡ false = g .1 in
@@ -80,7 +77,7 @@ module _ (c : Code) (p : Place) where
 
   pub end-other : (tag : ℕ) → (eqb tag 14 || eqb tag 16) ≡ false → (tag ≡ 15 → ⊥) → (tag ≡ 17 → ⊥) → (tag ≡ 18 → ⊥) → false ≡ endAt tag
   end-other tag e a15 a17 a18 =
-      let h = neither (eqb tag 14) (eqb tag 16) e in
+      let h = either-no (eqb tag 14) (eqb tag 16) e in
       let e14 : eqb tag 14 ≡ false = h .0 in
       let e16 : eqb tag 16 ≡ false = h .1 in
       rw (e14, ne-eqb tag 15 a15, e16, ne-eqb tag 17 a17, ne-eqb 18 tag (λ e. a18 (sym e)))

@@ -30,7 +30,7 @@ use Rattle.session.specs.Sound.{stageSound, sound, plain}
 use Rattle.session.specs.Steps.{entered, outOf}
 use Rattle.session.specs.declared.session.Now.the-variants as N
 use Rattle.session.specs.declared.session.Session.{Session}
-use Rattle.session.proofs.Unders.{both}
+use Rattle.slices.proofs.Truths.{both}
 use Rattle.kept.proofs.Pieces.{WriteIn, write-says}
 use Rattle.kept.proofs.Sounds.{mark-inside, open-sound}
 use Rattle.kept.proofs.Ables.{able}

@@ -8,6 +8,7 @@ use lib.Dec.{eqb, ltb}
 use lib.ListN.{length}
 use borrow.Author.Tests.{eqb-true, ltb-false, not-false}
 use Rattle.slices.specs.Pick.{pick}
+use Rattle.slices.proofs.Truths.{both, either-no}
 use Rattle.protocol.specs.Mark.{Mark, none}
 use Rattle.protocol.specs.Call.{Call}
 use Rattle.stages.specs.Turns.{stageAsk, stageStep, startOf, lentTo}
@@ -18,7 +19,6 @@ use Rattle.session.specs.Steps.{entered, counted, outOf}
 use Rattle.session.specs.declared.session.Now.{Now}
 use Rattle.session.specs.declared.session.Now.the-variants as N
 use Rattle.session.specs.declared.session.Session.{Session}
-use Rattle.session.proofs.Unders.{both}
 use Rattle.numbers.specs.Flat.{flatten}
 use Rattle.numbers.specs.From.{sessionFrom}
 use Rattle.state.specs.Bytes.{flatOf, sameFlat, decodeFlat, decodeOf}
@@ -28,7 +28,6 @@ use Rattle.state.specs.declared.decode.Decoded.the-variants.{State, Nothing}
 use Rattle.kept.proofs.Sounds.{mark-inside, start-sound, step-sound}
 use Rattle.kept.proofs.Small.{flat-small}
 use Rattle.kept.proofs.Decode.{now-counts}
-use Rattle.kept.proofs.Truths.{either-no}
 use Rattle.telling.specs.Left.{short, openedNow, openedBy, openedOf, markOf, misfit, heardNow, heardBy}
 use Rattle.telling.specs.Fit.{StageFits, TurnFits, StartFits}
 use Rattle.stages.specs.Able.{Able}

@@ -1,14 +1,9 @@
 // Whether what answers is the part.
 ghost use mathlib.Core.Path.{_≡_};
-ghost use Prim.Native.Nat.{_≤_, _<_};
+ghost use Prim.Native.Nat.{_≤_};
 ghost use lib.ListN.{length, take};
 ghost use Rattle.protocol.specs.Setup.{isThePart};
-
-fn wide(b: u8) -> usize
-    ensures { λ r. ⌜ (r ≡ b) × (r < 256) ⌝ }
-{
-    b as usize
-}
+use slices::wide;
 
 // Whether twelve bytes from MEM_SIZE on are those of an ST25DV of 8 KB.
 pub fn is_the_part(id: &[u8]) -> bool

@@ -7,18 +7,13 @@ ghost use Rattle.scan.specs.Zeros.{alike};
 ghost use Rattle.protocol.specs.Transfer.{placeOf};
 ghost use Rattle.protocol.specs.Tag.{userMemory, password};
 use equals::same;
+use slices::wide;
 
 // The byte at `i`, or 0 past the end.
 pub fn byte_at(s: &[u8], i: usize) -> u8
     ensures { λ r. ⌜ r ≡ getD (now (s .entry)) i 0 ⌝ }
 {
     if i < s.len() { s[i] } else { 0 }
-}
-
-pub fn wide(b: u8) -> usize
-    ensures { λ r. ⌜ (r ≡ b) × (r < 256) ⌝ }
-{
-    b as usize
 }
 
 // The place that the first two bytes are.

@@ -18,7 +18,7 @@ use Rattle.session.specs.Sound.{scrubSound, stageSound, sound}
 use Rattle.session.specs.Steps.{outOf}
 use Rattle.session.specs.declared.session.Now.the-variants as N
 use Rattle.session.specs.declared.session.Session.{Session}
-use Rattle.session.proofs.Unders.{both}
+use Rattle.slices.proofs.Truths.{both}
 use Rattle.kept.proofs.Chunks.{ScrubIn, stop-inside, scrub-says}
 use Rattle.kept.proofs.Pieces.{WriteIn, write-says}
 use Rattle.kept.proofs.Sounds.{mark-inside, open-sound}

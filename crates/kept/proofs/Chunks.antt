@@ -18,8 +18,7 @@ use Rattle.wipe.specs.declared.scrub.Rows.{Rows}
 use Rattle.wipe.specs.declared.scrub.Scrub.{Scrub}
 use Rattle.wipe.specs.declared.scrub.Scrub.the-variants as C
 use Rattle.session.specs.Sound.{waitSound, chunkStop, toCome, rowSound, scrubSound}
-use Rattle.session.proofs.Unders.{both}
-use Rattle.kept.proofs.Truths.{both-so, chosen, pick-yes, pick-true, pick-so}
+use Rattle.slices.proofs.Truths.{both, both-so, chosen, pick-yes, pick-true, pick-so}
 
 abbrev pub stopOf : Chunk → ℕ
 stopOf p = min (p .end) (p .at + 64)

@@ -8,6 +8,7 @@ use lib.ListN.{length, take, drop, length-take, length-drop}
 use lib.Dec.{eqb}
 use borrow.Author.Tests.{lt-ltb}
 use Rattle.slices.specs.Pick.{pick}
+use Rattle.slices.proofs.Truths.{both, both-so}
 use Rattle.scan.proofs.Cutting.{row-some, row-most}
 use Rattle.protocol.specs.Mark.{Mark}
 use Rattle.protocol.specs.Transfer.{write, Reply, place, isRow}
@@ -40,8 +41,6 @@ use Rattle.session.specs.Sound.{scrubSound, stageSound, sound}
 use Rattle.session.specs.Steps.{counted}
 use Rattle.session.specs.declared.session.Now.the-variants as N
 use Rattle.session.specs.declared.session.Session.{Session}
-use Rattle.session.proofs.Unders.{both}
-use Rattle.kept.proofs.Truths.{both-so}
 use Rattle.kept.proofs.Chunks.{ScrubIn, stop-inside, scrub-says}
 use Rattle.kept.proofs.Pieces.{WriteIn, write-says}
 use Rattle.kept.proofs.Sounds.{mark-inside, open-sound}

@@ -9,11 +9,12 @@ use lib.Seq.{drop-cons}
 use lib.Dec.{eqb}
 use borrow.Author.Tests.{eqb-true, eq-eqb}
 use Rattle.slices.specs.Pick.{pick}
+use Rattle.slices.proofs.Truths.{both, both-so}
+use Rattle.slices.proofs.Numbers.{byte-rest}
 use Rattle.session.specs.Sound.{sound}
 use Rattle.session.specs.declared.session.Now.{Now}
 use Rattle.session.specs.declared.session.Now.the-variants as N
 use Rattle.session.specs.declared.session.Session.{Session}
-use Rattle.session.proofs.Unders.{both}
 use Rattle.numbers.specs.Flat.{nowFlat, flatten}
 use Rattle.numbers.specs.From.{sessionFrom}
 use Rattle.state.specs.Bytes.{bytesOf, twoAt, flatOf, encode, sameCode, samePlace, sameFlat, decodeFlat, decodeOf}
@@ -23,7 +24,6 @@ use Rattle.numbers.specs.declared.flat.Flat.{Flat}
 use Rattle.state.specs.declared.decode.Decoded.{Decoded}
 use Rattle.state.specs.declared.decode.Decoded.the-variants.{State, Nothing}
 use Rattle.kept.specs.Bytes.{Bytes}
-use Rattle.kept.proofs.Truths.{both-so}
 use Rattle.kept.proofs.Back.{flat-back}
 use Rattle.kept.proofs.Small.{Small, flat-small}
 
@@ -116,9 +116,6 @@ flat-is f e =
     let p = place-is (g .place) (f .place) (h2 .1) in
     let n = now-counts (f .mark) (f .rows) (f .lent) (sessionFrom f .now) in
     λ i. record { stage = t i; code = c i; place = p i; mark = n .0 i; rows = n .1 i; lent = n .2 i }
-
-byte-rest : (n : ℕ) → n < 256 → n % 256 ≡ n
-byte-rest n h = omega (arith, h)
 
 module _ (l : List ℕ) (n : length l ≡ 20) (b : Bytes l) where
   cons : (i x : ℕ) (xs : List ℕ) → i < 20 → x ≡ getD l i 0 → xs ≡ drop (suc i) l → x ∷ xs ≡ drop i l

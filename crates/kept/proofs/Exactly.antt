@@ -8,6 +8,7 @@ use lib.ListN.{length, replicate, length-replicate}
 use lib.Dec.{eqb, leb}
 use borrow.Author.Tests.{eqb-true, not-true}
 use Rattle.slices.specs.Pick.{pick}
+use Rattle.slices.proofs.Truths.{both}
 use Rattle.protocol.specs.Mark.{Mark, wipeEnd}
 use Rattle.protocol.specs.Write.{past}
 use Rattle.protocol.specs.Call.{Call}
@@ -34,7 +35,6 @@ use Rattle.session.specs.Steps.{counted}
 use Rattle.session.specs.declared.session.Now.{Now}
 use Rattle.session.specs.declared.session.Now.the-variants as N
 use Rattle.session.specs.declared.session.Session.{Session}
-use Rattle.session.proofs.Unders.{both}
 use Rattle.kept.specs.Bytes.{Bytes}
 use Rattle.kept.specs.Kept.{asked, Kept}
 use Rattle.kept.proofs.Replies.{bytes-none, bytes-zeros, says-one}

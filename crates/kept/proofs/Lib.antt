@@ -1,4 +1,3 @@
-pub mod Truths
 pub mod Marks
 pub mod Rows
 pub mod Chunks

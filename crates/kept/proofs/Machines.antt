@@ -8,6 +8,7 @@ use lib.ListN.{take}
 use lib.Dec.{eqb, ltb}
 use borrow.Author.Tests.{ltb-true, lt-ltb}
 use Rattle.slices.proofs.Cases.{pick-cases}
+use Rattle.slices.proofs.Truths.{both, both-so}
 use Rattle.protocol.specs.Tag.{openBit}
 use Rattle.protocol.specs.Setup.{isThePart, isSetUp, reports}
 use Rattle.machine.specs.Ask.{first}
@@ -40,8 +41,6 @@ use Rattle.setup.specs.declared.setup.SetupStep.{SetupStep}
 use Rattle.setup.specs.declared.setup.SetupStep.the-variants as U
 use Rattle.session.specs.Sound.{waitSound, openSound, storeSound, setupSound, switchSound, offSound}
 use Rattle.session.specs.Steps.{counted}
-use Rattle.session.proofs.Unders.{both}
-use Rattle.kept.proofs.Truths.{both-so}
 
 -- a machine that goes on is sound, one that has ended is not asked
 abbrev pub WaitedIn : Waited → Type 0

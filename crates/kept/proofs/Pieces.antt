@@ -18,8 +18,8 @@ use Rattle.writing.specs.declared.write.Check.{Check}
 use Rattle.writing.specs.declared.write.Write.{Write}
 use Rattle.writing.specs.declared.write.Write.the-variants as K
 use Rattle.session.specs.Sound.{waitSound, under, rowsTo, pieceRows, checkRows, writeSound}
-use Rattle.session.proofs.Unders.{both, under-says}
-use Rattle.kept.proofs.Truths.{both-so, either, either-left, either-right, chosen, pick-yes}
+use Rattle.slices.proofs.Truths.{both, both-so, either, either-left, either-right, chosen, pick-yes}
+use Rattle.session.proofs.Unders.{under-says}
 
 pub record PieceIn (m : Mark) (len : ℕ) (p : Piece) : Type 0 where
   pub fits : p .start + len ≤ m

@@ -11,6 +11,7 @@ use native.Mathlib.Omega.{arith}
 use lib.ListN.{take, replicate}
 use lib.Dec.{eqb}
 use Rattle.slices.specs.Pick.{pick}
+use Rattle.slices.proofs.Truths.{both, both-so, false-of, never}
 use Rattle.scan.specs.Zeros.{blank}
 use Rattle.protocol.specs.Mark.{Mark}
 use Rattle.protocol.specs.Scrub.{dirtyRows}
@@ -21,10 +22,8 @@ use Rattle.wipe.specs.declared.scrub.Rows.{Rows}
 use Rattle.wipe.specs.declared.scrub.Scrub.the-variants as C
 use Rattle.wipe.specs.declared.scrub.Scrubbed.the-variants.{More, Not}
 use Rattle.numbers.specs.Flat.{bitOf}
-use Rattle.session.proofs.Unders.{both}
 use Rattle.kept.specs.Bytes.{Bytes}
 use Rattle.kept.specs.Kept.{Answers}
-use Rattle.kept.proofs.Truths.{both-so, false-of, never}
 use Rattle.kept.proofs.Replies.{bytes-none, bytes-more, bytes-zeros, bytes-both}
 use Rattle.kept.proofs.Chunks.{stopOf, ChunkIn, RowIn, stop-rows}
 

@@ -11,6 +11,7 @@ use lib.Dec.{eqb}
 use borrow.Author.Tests.{le-ltb, eqb-true, eqb-false, eq-eqb, ne-eqb}
 use Rattle.slices.specs.Pick.{pick}
 use Rattle.slices.proofs.Cases.{lt-or-ge, pick-cases}
+use Rattle.slices.proofs.Truths.{either-way}
 use Rattle.scan.specs.Rows.{rowLen, rowCount}
 use Rattle.scan.specs.Zeros.{alike}
 use Rattle.scan.proofs.Cutting.{count-more}
@@ -33,7 +34,6 @@ use Rattle.session.specs.Steps.{counted}
 use Rattle.session.proofs.Unders.{count-some}
 use Rattle.kept.specs.Bytes.{Bytes}
 use Rattle.kept.specs.Kept.{Answers, Kept}
-use Rattle.kept.proofs.Truths.{either-way}
 use Rattle.kept.proofs.Marks.{widened-same}
 use Rattle.kept.proofs.Rows.{count-one, prev-len}
 use Rattle.kept.proofs.Pieces.{PieceIn, CheckIn, WriteIn}

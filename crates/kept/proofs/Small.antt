@@ -21,7 +21,7 @@ use Rattle.session.specs.Sound.{setupSound, waitSound, switchSound, offSound, s
 use Rattle.session.specs.declared.session.Now.{Now}
 use Rattle.session.specs.declared.session.Now.the-variants as N
 use Rattle.session.specs.declared.session.Session.{Session}
-use Rattle.session.proofs.Unders.{both}
+use Rattle.slices.proofs.Truths.{both}
 use Rattle.numbers.specs.Flat.{bitsOf, placeAt, noPlace, scrubPlace, writePlace, stagePlace, nowFlat, flatten}
 use Rattle.numbers.specs.declared.flat.Place.{Place}
 use Rattle.numbers.specs.declared.flat.Flat.{Flat}

@@ -15,9 +15,8 @@ use Rattle.session.specs.Sound.{stageSound, nowSound, sound}
 use Rattle.session.specs.Steps.{idle, entered, counted}
 use Rattle.session.specs.declared.session.Now.the-variants as N
 use Rattle.session.specs.declared.session.Session.{Session}
-use Rattle.session.proofs.Unders.{both}
+use Rattle.slices.proofs.Truths.{both, both-so}
 use Rattle.kept.specs.Kept.{Kept, new, started, replied}
-use Rattle.kept.proofs.Truths.{both-so}
 use Rattle.kept.proofs.Turns.{turn-sound, step-in, start-in}
 
 -- what a sound session says of its mark and of its open stage

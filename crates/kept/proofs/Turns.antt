@@ -11,6 +11,7 @@ use lib.Dec.{eqb}
 use borrow.Author.Tests.{ltb-false, eqb-true, le-leb, eq-eqb}
 use Rattle.slices.specs.Pick.{pick}
 use Rattle.slices.proofs.Cases.{pick-cases}
+use Rattle.slices.proofs.Truths.{both, both-so}
 use Rattle.protocol.specs.Mark.{Mark, whole, widened, isNone, wipeEnd}
 use Rattle.protocol.proofs.Marks.{inside-none, inside-whole, inside-widened, inside-found}
 use Rattle.protocol.specs.Write.{past}
@@ -39,8 +40,6 @@ use Rattle.stages.specs.declared.stage.Turn.{Turn}
 use Rattle.stages.specs.declared.stage.Turn.the-variants.{Open, Over}
 use Rattle.session.specs.Sound.{setupSound, waitSound, switchSound, offSound, scrubSound, plain, stageSound, sound}
 use Rattle.session.specs.Steps.{entered, counted}
-use Rattle.session.proofs.Unders.{both}
-use Rattle.kept.proofs.Truths.{both-so}
 use Rattle.kept.proofs.Marks.{widened-past}
 use Rattle.kept.proofs.Machines.{WaitedIn, wait-kept, wait-counts, SwitchedIn, switch-kept, off-kept, switch-counts, SetupIn, setup-kept, setup-counts}
 use Rattle.kept.proofs.Chunks.{scrub-says, scrub-so}

@@ -8,6 +8,7 @@ use native.Mathlib.Omega.{arith}
 use lib.ListN.{length, take, drop, length-take}
 use lib.Seq.{drop-drop}
 use Rattle.slices.proofs.Cases.{lt-or-ge, pick-cases}
+use Rattle.slices.proofs.Truths.{not-both, never}
 use Rattle.scan.specs.Zeros.{blank}
 use Rattle.scan.proofs.Blanks.{blank-none}
 use Rattle.protocol.specs.Mark.{Mark, wipeEnd}
@@ -24,7 +25,6 @@ use Rattle.wipe.specs.declared.scrub.Scrub.the-variants as C
 use Rattle.wipe.specs.declared.scrub.Scrubbed.{Scrubbed}
 use Rattle.wipe.specs.declared.scrub.Scrubbed.the-variants.{More, Done, Not}
 use Rattle.session.specs.Steps.{counted}
-use Rattle.kept.proofs.Truths.{not-both, never}
 use Rattle.kept.proofs.Machines.{WaitedIn, wait-kept, wait-counts}
 use Rattle.kept.proofs.Chunks.{stopOf, ChunkIn, RowIn, ScrubIn, stop-rows}
 

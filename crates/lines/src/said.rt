@@ -3,6 +3,7 @@
 ghost use Prim.Native.Nat.{_≤_};
 use crate::words::first;
 use slices::copy_to;
+use slices::wide;
 
 pub fn text(out: &mut [u8], at: usize, s: &[u8]) -> usize {
     if at <= out.len() {
@@ -34,12 +35,6 @@ fn pairs(out: &mut [u8], at: usize, s: &[u8]) -> usize {
         i += 1;
     }
     a
-}
-
-fn wide(b: u8) -> usize
-    ensures { λ r. ⌜ r ≤ 255 ⌝ }
-{
-    b as usize
 }
 
 // Every byte counts, and its place: h * 524287 + b + 1, modulo the largest prime below 2^44.

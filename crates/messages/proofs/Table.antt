@@ -18,6 +18,7 @@ use Rattle.slices.specs.Pick.{pick}
 use Rattle.slices.specs.Bytes.{splice}
 use Rattle.slices.proofs.Cases.{pick-cases, lt-or-ge}
 use Rattle.slices.proofs.Splice.{splice-front}
+use Rattle.slices.proofs.Truths.{pick-true}
 use Rattle.uri.specs.Prefixes.{ascii}
 use Rattle.uri.proofs.Table.{map-at}
 use Rattle.messages.specs.declared.Line.{Line}
@@ -96,15 +97,11 @@ every : {A : Type 0} → (A → Bool) → List A → Bool
 every p [] = true
 every p (x ∷ l) = pick (p x) (every p l) false
 
-both : (a b : Bool) → pick a b false ≡ true → (a ≡ true) × (b ≡ true)
-both true b e = (refl, e)
-both false b e = (e, cc)
-
 every-at : {A : Type 0} (p : A → Bool) (l : List A) (d : A) (n : ℕ) → p d ≡ true → every p l ≡ true → p (getD l n d) ≡ true
 unfolding every
 every-at p [] d n z e = z
-every-at p (x ∷ l) d zero z e = both (p x) (every p l) e .0
-every-at p (x ∷ l) d (suc n) z e = every-at p l d n z (both (p x) (every p l) e .1)
+every-at p (x ∷ l) d zero z e = pick-true (p x) (every p l) e .0
+every-at p (x ∷ l) d (suc n) z e = every-at p l d n z (pick-true (p x) (every p l) e .1)
 
 -- a test that holds of the table's messages, of the end's and of none holds of each message
 each : (p : List ℕ → Bool) (n : ℕ) → p [] ≡ true → every p messages ≡ true → p (ascii "no more records") ≡ true
@@ -132,6 +129,6 @@ printable n k h =
     let x : ℕ = getD (messageOf n) k 32 in
     let e : letter x ≡ true = every-at letter (messageOf n) 32 k refl (each (every letter) n refl refl refl) in
     let i : x ≡ getD (messageOf n) k 0 = within (messageOf n) k h in
-    let low : 31 < x = ltb-true 31 x (both (ltb x 127) (ltb 31 x) e .1) in
-    let high : x < 127 = ltb-true x 127 (both (ltb x 127) (ltb 31 x) e .0) in
+    let low : 31 < x = ltb-true 31 x (pick-true (ltb x 127) (ltb 31 x) e .1) in
+    let high : x < 127 = ltb-true x 127 (pick-true (ltb x 127) (ltb 31 x) e .0) in
     (rw (← i) low, rw (← i) high)

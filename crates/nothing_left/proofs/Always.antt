@@ -14,7 +14,7 @@ use lib.ListN.{length}
 use borrow.Author.Tests.{eqb-true, leb-true}
 use Rattle.slices.specs.Pick.{pick}
 use Rattle.slices.specs.Bytes.{splice}
-use Rattle.scan.proofs.Blanks.{and-left, and-right}
+use Rattle.slices.proofs.Truths.{and-left, and-right}
 use Rattle.protocol.specs.Transfer.{Transfer, Reply, sent, isRow, placeOf}
 use Rattle.protocol.specs.Tag.{user, userMemory}
 use Rattle.protocol.specs.Mark.{Mark}

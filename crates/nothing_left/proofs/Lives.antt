@@ -9,7 +9,7 @@ use lib.ListN.{length, getD, take, drop, length-drop}
 use lib.Seq.{getD-take}
 use borrow.Author.Tests.{eq-eqb}
 use Rattle.slices.proofs.Cases.{pick-cases}
-use Rattle.scan.proofs.Blanks.{and-right}
+use Rattle.slices.proofs.Truths.{and-right}
 use Rattle.protocol.specs.Transfer.{Transfer, write, writeRead, delay}
 use Rattle.protocol.specs.Proc.{Proc, done, ask, mark}
 use Rattle.part.specs.Part.{Part, ThePart, free}

@@ -6,6 +6,7 @@ use mathlib.Core.Bool.{Bool, true, false}
 use mathlib.Core.List.{List, []}
 use Prim.Native.Nat.{ℕ}
 use native.Mathlib.Omega.{arith}
+use Rattle.slices.proofs.Truths.{never}
 use Rattle.protocol.specs.Mark.{Mark, whole}
 use Rattle.protocol.specs.Tag.{readyPolls}
 use Rattle.protocol.specs.Proc.{Proc, done, Res}
@@ -59,9 +60,6 @@ same-phase : (f : Phase) (q : Proc (Res Unit)) → Tame q → (m : Mark)
     → (p : Part) → Holds f m p → always Phone (plainly q) (λ a n S x. Holds f n x) m [] p
 same-phase quiet q t m off ready p h = plainly-any q (Safe Off) m p (off p h)
 same-phase live q t m off ready p h = plainly-any q Kept m p (live-keeps q t m [] ready p h)
-
-never : {X : Type 0} → _≡_ {A = Bool} false true → X
-never e = absurd (let z : _≡_ {A = ℕ} 0 1 = cc in omega arith)
 
 -- what `finish` leaves
 cleaned-safe : {A : Type 0} (good a : A) (n : Mark) (x : Part) → Cleaned good a n x → Safe Off n x

@@ -8,7 +8,7 @@ use lib.ListN.{length, replicate, length-replicate, drop-of-length-le}
 use lib.Seq.{take-all}
 use borrow.Author.Tests.{eq-eqb, ne-eqb, le-leb}
 use Rattle.slices.specs.Bytes.{splice}
-use Rattle.slices.proofs.Splice.{splice-front}
+use Rattle.slices.proofs.Splice.{splice-front, splice-whole}
 use Rattle.part.specs.Part.{Part, ThePart}
 use Rattle.part.specs.Orders.{ordered}
 use Rattle.part.specs.Power.{writes, visited, reached, cut}
@@ -32,15 +32,11 @@ fresh-is = record { identified = refl; size = refl; uid = refl; bytes = length-r
 pub every-cycle : (at n ms : ℕ) (r : Registers) → ms ≤ 99 → ordered (Row at) n ms r .busy ≡ ms
 every-cycle at n ms r h = omega arith
 
--- bytes that fill what they are written into
-pub filled : (d bs : List ℕ) → length d ≡ length bs → splice d 0 bs ≡ bs
-filled d bs e = splice-front d bs ∙ rw (drop-of-length-le d {i = length bs} (omega arith)) (append-nil bs)
-
 -- with RF on a phone may leave any bytes in the memory
 pub every-change : (p : Part) (bs : List ℕ) → p .registers .rf ≡ 0 → length (p .memory) ≡ 8192 → length bs ≡ 8192 → visited (writes 0 bs) p .memory ≡ bs
 every-change p bs h l k =
     let e : reached 0 (length bs) (p .registers) ≡ true = rw (eq-eqb (p .registers .rf) 0 h) (le-leb (0 + length bs) 8192 (omega arith)) in
-    rw e (filled (p .memory) bs (l ∙ sym k))
+    rw e (splice-whole (p .memory) bs (l ∙ sym k))
 
 -- a cut inside the cycle of a row write may leave any bytes in its place
 pub every-tear : (p : Part) (at : ℕ) (bs : List ℕ) (old : Bool) → (p .registers .busy ≡ 0 → ⊥) → p .registers .cycle ≡ cycle.Row at (length bs) → at + length bs ≤ 8192

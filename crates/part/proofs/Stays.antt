@@ -10,7 +10,7 @@ use borrow.Author.Tests.{ltb-true, leb-true, eqb-true}
 use Rattle.slices.specs.Pick.{pick}
 use Rattle.slices.proofs.Cases.{pick-cases}
 use Rattle.slices.proofs.Splice.{splice-length}
-use Rattle.scan.proofs.Blanks.{and-left, and-right}
+use Rattle.slices.proofs.Truths.{and-left, and-right}
 use Rattle.protocol.specs.Transfer.{Transfer, write, writeRead, delay}
 use Rattle.protocol.specs.Tag.{gpo1, rfMngt, i2cCfg}
 use Rattle.part.specs.Part.{Part, ThePart, Sound, byteAt, fits, free, rfOn, withByte}

@@ -21,10 +21,6 @@ use Rattle.heads.specs.Heads.{flag, headLen, idLen, payloadLen}
 use Rattle.records.specs.Parse.{wholeOf, parseOf, Plain, endOf}
 use Rattle.heads.proofs.Heads.{head-at, head-least, short-no-id}
 
--- no test both failed and held
-pub never : {X : Type 0} → false ≡ true → X
-never e = absurd (let z : _≡_ {A = ℕ} 0 1 = cc in omega arith)
-
 abbrev Sound : List ℕ → Parsed → Type 0
 Sound s (parsed.Record r) = (2 < endOf r) × (endOf r ≤ length s)
 Sound s parsed.Truncated = Unit {0}

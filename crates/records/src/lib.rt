@@ -8,7 +8,7 @@ ghost use Rattle.records.specs.Parse.{wholeOf, parseOf, Plain, numberOf}
 use heads::head_len;
 use heads::id_len;
 use heads::payload_len;
-use heads::wide;
+use slices::wide;
 
 // A record by its places: the type name stands at `kind`, the id right after it, then the payload.
 pub struct Record {

@@ -9,6 +9,7 @@ use lib.ListN.{length, getD, take, drop, length-drop, drop-of-length-le}
 use lib.Seq.{take-suc, getD-drop, take-all}
 use lib.Dec.{eqb}
 use borrow.Author.Tests.{eq-eqb, eqb-true}
+use Rattle.slices.proofs.Truths.{and-left, and-right}
 use Rattle.scan.specs.Zeros.{blank, alike}
 
 and-assoc : (a b c : Bool) → (a && b) && c ≡ a && (b && c)
@@ -18,14 +19,6 @@ and-assoc false b c = refl
 and-true : (a : Bool) → a && true ≡ a
 and-true true = refl
 and-true false = refl
-
-pub and-left : (a b : Bool) → a && b ≡ true → a ≡ true
-and-left true b e = refl
-and-left false b e = e
-
-pub and-right : (a b : Bool) → a && b ≡ true → b ≡ true
-and-right true b e = e
-and-right false b e = absurd (let z : _≡_ {A = ℕ} 0 1 = cc in omega arith)
 
 blank-last : (s : List ℕ) (b : ℕ) → blank (s ++ b ∷ []) ≡ blank s && eqb b 0
 blank-last [] b = and-true (eqb b 0)

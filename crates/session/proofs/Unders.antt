@@ -6,15 +6,12 @@ use native.Mathlib.Omega.{arith}
 use lib.Dec.{eqb, ltb, leb}
 use borrow.Author.Tests.{ltb-true, leb-true, eq-eqb, ne-eqb, lt-ltb, le-ltb}
 use Rattle.slices.specs.Pick.{pick}
+use Rattle.slices.proofs.Truths.{both}
 use Rattle.scan.specs.Rows.{rowLen, rowCount}
 use Rattle.scan.proofs.Cutting.{count-more}
 use Rattle.protocol.specs.Mark.{Mark, wipeEnd}
 use Rattle.wipe.specs.declared.scrub.Chunk.{Chunk}
 use Rattle.session.specs.Sound.{chunkStop, under}
-
-pub both : (a b : Bool) → (a && b) ≡ true → (a ≡ true) × (b ≡ true)
-both true b e = (refl, e)
-both false b e = absurd (let z : _≡_ {A = ℕ} 0 1 = cc in omega arith)
 
 pub under-says : (m start len done : ℕ) (b : Bool) → b ≡ under m start len done → b ≡ true → (start ≤ m) × (len ≤ m - start) × (done < len)
 under-says m start len done b e t =

@@ -9,27 +9,24 @@ use lib.ListN.{length, take, drop, length-take, length-drop}
 use borrow.Author.Tests.{eqb-true, leb-true}
 use Rattle.slices.specs.Bytes.{splice}
 use Rattle.slices.proofs.Cases.{pick-cases}
-use Rattle.scan.proofs.Blanks.{and-left, and-right}
+use Rattle.slices.proofs.Truths.{and-left, and-right, never}
+use Rattle.slices.proofs.Splice.{splice-whole}
 use Rattle.protocol.specs.Transfer.{placeOf}
 use Rattle.part.specs.Looks.{dynamicAt, systemAt, lookOf, known, answered, shown, looked}
 use Rattle.simulated.specs.Simulated.{both, Fills, refusedBy, didRead, outRead}
 use Rattle.part.specs.declared.look.Look.{Look}
 use Rattle.part.specs.declared.registers.Registers.{Registers}
 use Rattle.simulated.specs.declared.Answer.{Answer}
-use Rattle.part.proofs.General.{filled}
 
 pub filled-part : (out memory : List ℕ) (at : ℕ) → at + length out ≤ length memory
     → splice out 0 (take (at + length out - at) (drop at memory)) ≡ take (length out) (drop at memory)
 filled-part out memory at h =
     let e : at + length out - at ≡ length out = omega arith in
-    rw e (filled out (take (length out) (drop at memory)) (simp (length-take, length-drop) (omega arith)))
+    rw e (splice-whole out (take (length out) (drop at memory)) (simp (length-take, length-drop) (omega arith)))
 
 pub none-left : (out : List ℕ) → length out ≡ 0 → out ≡ []
 none-left [] e = refl
 none-left (x ∷ xs) e = absurd (omega arith)
-
-never : {X : Type 0} → _≡_ {A = Bool} false true → X
-never x = absurd (let z : _≡_ {A = ℕ} 0 1 = cc in omega arith)
 
 -- a buffer is as long as what is read
 abbrev Fit : ℕ → Look → Type 0

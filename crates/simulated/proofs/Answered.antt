@@ -7,7 +7,7 @@ use native.Mathlib.Omega.{arith}
 use lib.Dec.{eqb, ltb}
 use lib.ListN.{length, drop}
 use borrow.Author.Tests.{eq-eqb, ltb-true}
-use Rattle.scan.proofs.Blanks.{and-left, and-right}
+use Rattle.slices.proofs.Truths.{and-left, and-right}
 use Rattle.part.specs.Orders.{orderOf, takes, accepted, ordered, stored}
 use Rattle.simulated.specs.Simulated.{Stores, refusedBy, wrote, memoryWrote}
 use Rattle.part.specs.declared.order.Order.{Order}

@@ -1,4 +1,5 @@
 pub mod Cases
 pub mod Numbers
 pub mod Splice
+pub mod Truths
 pub mod Walks

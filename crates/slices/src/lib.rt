@@ -1,4 +1,4 @@
-// Writing into a lent buffer: one byte, a whole slice; and the front of a slice. Knows nothing of NFC.
+// Writing into a lent buffer: one byte, a whole slice; the front of a slice; a byte as a number. Knows nothing of NFC.
 // Each writer keeps every other byte and returns the place after what it wrote, so that writes chain.
 ghost use mathlib.Core.Path.{_≡_};
 ghost use mathlib.Core.List.{_∷_, []};
@@ -34,4 +34,11 @@ pub fn front(s: &[u8], n: usize) -> &[u8]
     ensures { λ r. ⌜ now r ≡ take n (now (s .entry)) ⌝ }
 {
     if n <= s.len() { &s[..n] } else { s }
+}
+
+// A byte as a number.
+pub fn wide(b: u8) -> usize
+    ensures { λ r. ⌜ (r ≡ b) × (r < 256) ⌝ }
+{
+    b as usize
 }

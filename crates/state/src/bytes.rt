@@ -6,6 +6,7 @@ ghost use Rattle.state.specs.Bytes.{bytesOf, twoAt, codeIn, placeIn, fla
 use numbers::flat::Code;
 use numbers::flat::Flat;
 use numbers::flat::Place;
+use slices::wide;
 
 pub const STATE_LEN: usize = 20;
 
@@ -36,12 +37,6 @@ pub fn bytes(f: Flat) -> [u8; 20]
         (p.row % 256) as u8,
         (p.row / 256 % 256) as u8,
     ]
-}
-
-pub fn wide(b: u8) -> usize
-    ensures { λ r. ⌜ (r ≡ b) × (r < 256) ⌝ }
-{
-    b as usize
 }
 
 // A number of two bytes, the low one at `at`.

@@ -4,7 +4,7 @@ ghost use Prim.Native.Nat.{_<_};
 ghost use Rattle.slices.specs.Pick.{pick};
 ghost use Rattle.telling.specs.Step.{stepOf, askStep, AskFits};
 use machine::ask::Ask;
-use state::bytes::wide;
+use slices::wide;
 
 // Bits 0 to 7 the kind, 8 to 15 a, 16 to 31 b, 32 to 63 c.
 pub fn step(kind: u8, a: u8, b: usize, c: usize) -> u64

@@ -6,6 +6,7 @@ use mathlib.Core.Path.{_≡_, refl}
 use mathlib.Core.Bool.{Bool, true, false}
 use Prim.Native.Nat.{ℕ, _<_, _%_}
 use native.Mathlib.Omega.{arith}
+use Rattle.slices.proofs.Numbers.{byte-rest}
 use Rattle.part.specs.declared.registers.Cycle.{Cycle}
 use Rattle.part.specs.declared.registers.Cycle.the-variants.{Nothing, Row, Byte}
 use Rattle.part.specs.declared.registers.Registers.{Registers}
@@ -24,9 +25,6 @@ pub record Bytes (r : Registers) : Type 0 where
   pub busy : r .busy < 256
   pub cycle : Byted (r .cycle)
 
-byte-back : (n : ℕ) → n < 256 → n % 256 ≡ n
-byte-back n h = omega arith
-
 flag-back : (b : Bool) → flag (numberOf b) ≡ b
 flag-back true = refl
 flag-back false = refl
@@ -34,8 +32,8 @@ flag-back false = refl
 cycle-back : (k : Cycle) → Byted k → cycleOf (kindOf k) (placeOf k) (sizeOf k) ≡ k
 cycle-back Nothing h = refl
 cycle-back (Row at n) h = refl
-cycle-back (Byte at v) h = rw (byte-back v h)
+cycle-back (Byte at v) h = rw (byte-rest v h)
 
 pub tile-back : (r : Registers) → Bytes r → registersOf (tileOf r) ≡ r
 tile-back r b =
-    rw (byte-back (r .gpo1) (b .gpo1), byte-back (r .mngt) (b .mngt), byte-back (r .cfg) (b .cfg), byte-back (r .rf) (b .rf), byte-back (r .busy) (b .busy), flag-back (r .session), flag-back (r .reported), cycle-back (r .cycle) (b .cycle))
+    rw (byte-rest (r .gpo1) (b .gpo1), byte-rest (r .mngt) (b .mngt), byte-rest (r .cfg) (b .cfg), byte-rest (r .rf) (b .rf), byte-rest (r .busy) (b .busy), flag-back (r .session), flag-back (r .reported), cycle-back (r .cycle) (b .cycle))

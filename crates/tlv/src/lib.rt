@@ -3,6 +3,7 @@ ghost use mathlib.Core.Path.{_≡_};
 ghost use Prim.Native.Nat.{_≤_, _<_};
 ghost use lib.ListN.{length};
 ghost use Rattle.tlv.specs.Blocks.{tlvLength, blockOf, bodyOf};
+use slices::wide;
 
 // A block's length: the number, and how many bytes it takes itself.
 pub enum Length {
@@ -17,14 +18,6 @@ pub enum Block {
     Body(usize, usize),
     Stop,
     Cut,
-}
-
-// A byte as a number.
-fn wide(x: u8) -> usize
-    ensures { λ r. ⌜ r ≡ x ⌝ }
-    ensures { λ r. ⌜ r < 256 ⌝ }
-{
-    x as usize
 }
 
 // The length after a block's type: one byte, or FF and two more, high byte first.

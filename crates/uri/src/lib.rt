@@ -2,6 +2,7 @@
 ghost use mathlib.Core.Path.{_≡_};
 ghost use Rattle.uri.specs.Prefixes.{prefixAnswer};
 use slices::copy_to;
+use slices::wide;
 
 // A prefix: its length, and its bytes with zeros after them. The longest has 26.
 pub struct Prefix {
@@ -58,12 +59,6 @@ const PREFIXES: [u8; 936] = *b"\
     urn:epc:raw:\0\0\0\0\0\0\0\0\0\0\0\0\0\0\
     urn:epc:\0\0\0\0\0\0\0\0\0\0\0\0\0\0\0\0\0\0\
     urn:nfc:\0\0\0\0\0\0\0\0\0\0\0\0\0\0\0\0\0\0";
-
-fn wide(b: u8) -> usize
-    ensures { λ r. ⌜ r ≡ b ⌝ }
-{
-    b as usize
-}
 
 // The prefix of a code: the 36 of the document, and nothing for 36 to 255.
 pub fn uri_prefix(code: u8) -> Found

@@ -8,9 +8,10 @@ use native.Mathlib.Omega.{arith}
 use lib.ListN.{length, take, drop, length-drop, take-append-drop}
 use lib.Seq.{drop-at}
 use Rattle.slices.proofs.Cases.{lt-or-ge, pick-cases}
+use Rattle.slices.proofs.Truths.{never, and-left, and-right}
 use Rattle.utf8.specs.Utf8.{Range, _to_, inside, table, fits, rowLen, firstLen, utf8}
 use Rattle.utf8.specs.Grammar.{Matches, end, byte, Text, none, char}
-use Rattle.utf8.proofs.Tests.{never, and-left, and-right, inside-is, inside-lo, inside-hi}
+use Rattle.utf8.proofs.Tests.{inside-is, inside-lo, inside-hi}
 use Rattle.utf8.proofs.Rows.{first-row}
 use Rattle.utf8.proofs.Utf8.{utf8-nil, utf8-bad, utf8-more}
 

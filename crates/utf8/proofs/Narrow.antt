@@ -13,11 +13,12 @@ use lib.Dec.{leb}
 use lib.ListN.{length, getD, drop}
 use Rattle.slices.specs.Pick.{pick}
 use Rattle.slices.proofs.Cases.{lt-or-ge}
+use Rattle.slices.proofs.Truths.{never, false-of, and-left, and-right, either}
 use Rattle.utf8.specs.Utf8.{_to_, inside, table, fits}
 use Rattle.utf8.specs.Rest.{rest}
 use Rattle.utf8.specs.Skips.{Skips}
 use Rattle.utf8.specs.Narrow.{later, beside}
-use Rattle.utf8.proofs.Tests.{never, of-no, and-left, and-right, or-cases, inside-is, inside-lo, inside-hi}
+use Rattle.utf8.proofs.Tests.{inside-is, inside-lo, inside-hi}
 use Rattle.utf8.proofs.Rows.{nth}
 use Rattle.utf8.proofs.Places.{row-at, rest-first}
 use Rattle.utf8.proofs.Skips.{skips-none, skips-on, skips-char, skips-ascii}
@@ -32,7 +33,7 @@ skips-two s i h a b =
 
 -- no first byte of two is a later byte
 first-not-later : (a : ℕ) → inside a (0xC2 to 0xDF) ≡ true → later a ≡ false
-first-not-later a h = of-no _ (λ e. omega (arith, inside-lo a 0xC2 0xDF h, inside-hi a 0x80 0xBF e))
+first-not-later a h = false-of _ (λ e. omega (arith, inside-lo a 0xC2 0xDF h, inside-hi a 0x80 0xBF e))
 
 -- a byte up to BF that is no later byte is ASCII
 low-ascii : (a : ℕ) → a ≤ 0xBF → later a ≡ false → a < 128
@@ -43,7 +44,7 @@ low-ascii a h e = by (lt-or-ge a 128)
     by (inr g) = never (sym e ∙ inside-is a 0x80 0xBF g h)
 
 beside-cases : (a b : ℕ) → beside a b ≡ true → ((later b ≡ true) × (inside a (0xC2 to 0xDF) ≡ true)) ⊎ ((later b ≡ false) × (a ≤ 0xBF))
-beside-cases a b e = by (or-cases (later b && inside a (0xC2 to 0xDF)) (not (later b) && leb a 0xBF) e)
+beside-cases a b e = by (either (later b && inside a (0xC2 to 0xDF)) (not (later b) && leb a 0xBF) e)
   where
     by : ((later b && inside a (0xC2 to 0xDF)) ≡ true) ⊎ ((not (later b) && leb a 0xBF) ≡ true)
         → ((later b ≡ true) × (inside a (0xC2 to 0xDF) ≡ true)) ⊎ ((later b ≡ false) × (a ≤ 0xBF))

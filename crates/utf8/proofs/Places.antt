@@ -15,9 +15,10 @@ use native.Mathlib.Omega.{arith}
 use lib.ListN.{length, getD, drop, replicate, length-drop}
 use lib.Seq.{drop-cons}
 use Rattle.slices.specs.Pick.{pick}
+use Rattle.slices.proofs.Truths.{false-of}
 use Rattle.utf8.specs.Utf8.{Range, _to_, inside, table, fits, firstLen}
 use Rattle.utf8.specs.Rest.{rest}
-use Rattle.utf8.proofs.Tests.{of-no, inside-is}
+use Rattle.utf8.proofs.Tests.{inside-is}
 use Rattle.utf8.proofs.Rows.{fits-le, clear, first-row, first-none}
 
 module _ (s : List ℕ) (i : ℕ) (h : i < length s) where
@@ -69,5 +70,5 @@ module _ (s : List ℕ) (i n : ℕ) where
   pub rest-short : (row : List Range) → i < length s → length s < i + 1 + length row → 0 ≡ pick (fits (drop (i + 1) s) row) n 0
   rest-short row p h =
       let l = length-drop (i + 1) s in
-      let e : fits (drop (i + 1) s) row ≡ false = of-no _ (λ f. omega (arith, fits-le (drop (i + 1) s) row f)) in
+      let e : fits (drop (i + 1) s) row ≡ false = false-of _ (λ f. omega (arith, fits-le (drop (i + 1) s) row f)) in
       rw e

@@ -16,8 +16,9 @@ use lib.Dec.{ltb}
 use lib.ListN.{length, getD}
 use Rattle.slices.specs.Pick.{pick}
 use Rattle.slices.proofs.Cases.{pick-cases}
+use Rattle.slices.proofs.Truths.{never, false-of, and-left, and-right, either}
 use Rattle.utf8.specs.Utf8.{Range, _to_, inside, table, fits, rowLen, firstLen}
-use Rattle.utf8.proofs.Tests.{never, of-no, and-left, and-right, or-cases, inside-lo, inside-hi}
+use Rattle.utf8.proofs.Tests.{inside-lo, inside-hi}
 
 -- what fits a row is as long as the row
 pub fits-le : (s : List ℕ) (row : List Range) → fits s row ≡ true → length row ≤ length s
@@ -65,7 +66,7 @@ module _ (b : ℕ) where
       ⊎-elim
       (λ k. omega (arith, ltb-true hi lo′ k, inside-hi b lo hi e, inside-lo b lo′ hi′ f))
       (λ k. omega (arith, ltb-true hi′ lo k, inside-lo b lo hi e, inside-hi b lo′ hi′ f))
-      (or-cases (ltb hi lo′) _ a)
+      (either (ltb hi lo′) _ a)
 
   -- a first byte of some row is outside each range that no row begins with
   clear-starts : (p : Range) (rows : List (List Range)) {row : List Range} → clear p rows ≡ true → List·Memᴰ row rows
@@ -82,7 +83,7 @@ module _ (b : ℕ) where
     -- a row that does not begin with the first byte does not fit
     passed : (q : Range) (row : List Range) → (inside b q ≡ true → ⊥) → fits (b ∷ s) (q ∷ row) ≡ false
     unfolding fits
-    passed q row n = rw (of-no (inside b q) n)
+    passed q row n = rw (false-of (inside b q) n)
 
     -- where no row begins with the first byte, none fits
     clear-none : (p : Range) (rows : List (List Range)) → clear p rows ≡ true → inside b p ≡ true → rowLen (b ∷ s) rows ≡ 0

@@ -9,10 +9,11 @@ use lib.Dec.{eqb}
 use lib.ListN.{length, getD, drop, length-drop}
 use lib.Seq.{drop-drop}
 use Rattle.slices.specs.Pick.{pick}
+use Rattle.slices.proofs.Truths.{and-left, and-right}
 use Rattle.utf8.specs.Utf8.{Range, _to_, inside, table, fits, firstLen, utf8}
 use Rattle.utf8.specs.Skips.{Skips}
 use Rattle.utf8.proofs.Utf8.{utf8-nil, utf8-bad, utf8-more}
-use Rattle.utf8.proofs.Tests.{and-left, and-right, inside-lo, inside-hi}
+use Rattle.utf8.proofs.Tests.{inside-lo, inside-hi}
 use Rattle.utf8.proofs.Rows.{nth, firstLen-le}
 use Rattle.utf8.proofs.Places.{row-at}
 

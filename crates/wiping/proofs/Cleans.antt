@@ -8,7 +8,7 @@ use lib.Dec.{eqb, ltb, leb}
 use borrow.Author.Tests.{ltb-true, leb-true}
 use lib.ListN.{take, drop}
 use Rattle.scan.specs.Zeros.{blank}
-use Rattle.scan.proofs.Blanks.{and-left, and-right}
+use Rattle.slices.proofs.Truths.{and-left, and-right}
 use Rattle.protocol.specs.Scrub.{dirtyRows, some}
 use Rattle.wipe.specs.Scrub.{sizeOf, nextChunk, readStep}
 use Rattle.wipe.proofs.Scrubs.{chunk-from}

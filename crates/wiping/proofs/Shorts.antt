@@ -9,6 +9,7 @@ use lib.Dec.{eqb, ltb, leb}
 use lib.ListN.{length, drop}
 use borrow.Author.Tests.{eqb-true, ltb-true, ltb-false, leb-true, not-false, le-leb, le-ltb, eq-eqb}
 use Rattle.slices.specs.Bytes.{Wrote}
+use Rattle.slices.proofs.Truths.{both, both-so, either, either-no}
 use Rattle.protocol.specs.Transfer.{Transfer, sent}
 use Rattle.machine.specs.Ask.{meant}
 use Rattle.machine.specs.Wait.{waitAsk}
@@ -28,13 +29,11 @@ use Rattle.session.specs.Sound.{scrubSound, stageSound, sound}
 use Rattle.session.specs.Steps.{counted, outOf}
 use Rattle.session.specs.declared.session.Now.the-variants as N
 use Rattle.session.specs.declared.session.Session.{Session}
-use Rattle.session.proofs.Unders.{both}
 use Rattle.numbers.specs.Flat.{scrubCode, scrubPlace, stageTag, stageCode, stagePlace, flatten}
 use Rattle.numbers.specs.declared.flat.Flat.{Flat}
 use Rattle.state.specs.Bytes.{bytesOf, flatOf, decodeFlat, decodeOf}
 use Rattle.state.specs.declared.decode.Decoded.{Decoded}
 use Rattle.state.specs.declared.decode.Decoded.the-variants.{State}
-use Rattle.kept.proofs.Truths.{both-so, either, either-no}
 use Rattle.kept.proofs.Decode.{flat-decoded}
 use Rattle.telling.specs.Step.{transferStep, padded, askStep, AskFits}
 use Rattle.telling.proofs.Frames.{ask-step, put-all, put-frame}

@@ -18,7 +18,7 @@ use Rattle.wipe.specs.declared.scrub.Scrubbed.{Scrubbed}
 use Rattle.wipe.specs.declared.scrub.Scrubbed.the-variants as D
 use Rattle.session.specs.Sound.{chunkStop, rowSound, scrubSound}
 use Rattle.session.specs.Steps.{counted}
-use Rattle.session.proofs.Unders.{both}
+use Rattle.slices.proofs.Truths.{both}
 use Rattle.numbers.specs.Flat.{bitOf, codeOf, chunkPlace, rowPlace}
 use Rattle.numbers.specs.From.{chunkFrom, rowsFrom}
 use Rattle.numbers.specs.declared.flat.Code.{Code}

@@ -8,9 +8,9 @@ use lib.ListN.{getD}
 use denote.Ref.{now}
 use borrow.Author.Tests.{not-true}
 use Rattle.slices.specs.Pick.{pick}
+use Rattle.slices.proofs.Truths.{and-left, and-right}
 use Rattle.utf8.specs.Narrow.{later}
 use Rattle.utf8.specs.Skips.{Skips}
-use Rattle.utf8.proofs.Tests.{and-left, and-right}
 use Rattle.utf8.proofs.Narrow.{narrow-none, narrow-on}
 use Rattle.narrow.proofs.is_narrow.Statement.{statement}
 use Rattle.narrow.proofs.is_narrow.Tie as tie

@@ -9,7 +9,7 @@ use denote.Ref.{now}
 use lib.Dec.{eqb}
 use lib.ListN.{length}
 use borrow.Author.Tests.{eq-eqb, ne-eqb, leb-true}
-use Rattle.scan.proofs.Blanks.{and-right}
+use Rattle.slices.proofs.Truths.{and-right}
 use Rattle.part.specs.Part.{withReported}
 use Rattle.part.specs.Power.{reached}
 use Rattle.phones.proofs.Tests.{either}

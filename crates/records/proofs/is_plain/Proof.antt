@@ -1,6 +1,6 @@
 use native.Mathlib.Omega.{arith}
 use borrow.Author.Tests.{eqb-true}
-use Rattle.records.proofs.Records.{never}
+use Rattle.slices.proofs.Truths.{never}
 use Rattle.records.proofs.is_plain.Statement.{statement}
 use Rattle.records.proofs.is_plain.Tie as tie
 

@@ -7,8 +7,8 @@ use Prim.Native.Nat.{ℕ, _+_, _≤_}
 use native.Mathlib.Omega.{arith}
 use denote.Ref.{now}
 use lib.ListN.{length, length-take, length-drop}
+use Rattle.slices.proofs.Splice.{splice-whole}
 use Rattle.shows.proofs.Answered.{filled-part, none-left}
-use Rattle.part.proofs.General.{filled}
 
 enum-known-l : tie.Need-enum-known-l
 enum-known-l c = search needs
@@ -86,7 +86,7 @@ same-length-2 c = search needs
 returns-2 : tie.Need-returns-2
 returns-2 c =
     let h : length (now (c .before .before .before .before .before .before .before .before .before .args .out)) ≡ 1 = rw (c .before .before .before .before .enum-told .given .1) at (c .before .before .before .before .before .before .before .before .before .pre) in
-    rw (c .before .before .before .before .enum-told .given .1) (c .before .before .put .ensures .bytes ∙ filled (now (c .before .before .before .before .before .before .before .before .before .args .out)) (_ ∷ []) h)
+    rw (c .before .before .before .before .enum-told .given .1) (c .before .before .put .ensures .bytes ∙ splice-whole (now (c .before .before .before .before .before .before .before .before .before .args .out)) (_ ∷ []) h)
 
 same-length-3 : tie.Need-same-length-3
 same-length-3 c = search needs
@@ -94,7 +94,7 @@ same-length-3 c = search needs
 returns-3 : tie.Need-returns-3
 returns-3 c =
     let h : length (now (c .before .before .before .before .before .before .before .before .before .before .args .out)) ≡ 1 = rw (c .before .before .before .before .before .enum-told2 .given .1) at (c .before .before .before .before .before .before .before .before .before .before .pre) in
-    rw (c .before .before .before .before .before .enum-told2 .given .1) (c .before .before .put2 .ensures .bytes ∙ filled (now (c .before .before .before .before .before .before .before .before .before .before .args .out)) (_ ∷ []) h ∙ ap (λ (v : ℕ). v ∷ []) (c .before .before .before .bit-of .ensures))
+    rw (c .before .before .before .before .before .enum-told2 .given .1) (c .before .before .put2 .ensures .bytes ∙ splice-whole (now (c .before .before .before .before .before .before .before .before .before .before .args .out)) (_ ∷ []) h ∙ ap (λ (v : ℕ). v ∷ []) (c .before .before .before .bit-of .ensures))
 
 same-length-4 : tie.Need-same-length-4
 same-length-4 c = search needs
@@ -102,7 +102,7 @@ same-length-4 c = search needs
 returns-4 : tie.Need-returns-4
 returns-4 c =
     let h : length (now (c .before .before .before .before .before .before .before .before .before .before .args .out)) ≡ 1 = rw (c .before .before .before .before .before .enum-told3 .given .1) at (c .before .before .before .before .before .before .before .before .before .before .pre) in
-    rw (c .before .before .before .before .before .enum-told3 .given .1) (c .before .before .put3 .ensures .bytes ∙ filled (now (c .before .before .before .before .before .before .before .before .before .before .args .out)) (_ ∷ []) h ∙ ap (λ (v : ℕ). v ∷ []) (c .before .before .before .bit-of2 .ensures))
+    rw (c .before .before .before .before .before .enum-told3 .given .1) (c .before .before .put3 .ensures .bytes ∙ splice-whole (now (c .before .before .before .before .before .before .before .before .before .before .args .out)) (_ ∷ []) h ∙ ap (λ (v : ℕ). v ∷ []) (c .before .before .before .bit-of2 .ensures))
 
 same-length-5 : tie.Need-same-length-5
 same-length-5 c = search needs
@@ -110,7 +110,7 @@ same-length-5 c = search needs
 returns-5 : tie.Need-returns-5
 returns-5 c =
     let h : length (now (c .before .before .before .before .before .before .before .before .before .before .before .args .out)) ≡ 1 = rw (c .before .before .before .before .before .before .l2 .given .1) at (c .before .before .before .before .before .before .before .before .before .before .before .pre) in
-    rw (c .before .before .before .before .before .before .l2 .given .1) (c .before .before .put4 .ensures .bytes ∙ filled (now (c .before .before .before .before .before .before .before .before .before .before .before .args .out)) (_ ∷ []) h ∙ ap (λ (v : ℕ). v ∷ []) (c .before .before .before .byte-of .ensures))
+    rw (c .before .before .before .before .before .before .l2 .given .1) (c .before .before .put4 .ensures .bytes ∙ splice-whole (now (c .before .before .before .before .before .before .before .before .before .before .before .args .out)) (_ ∷ []) h ∙ ap (λ (v : ℕ). v ∷ []) (c .before .before .before .byte-of .ensures))
 
 same-length-6 : tie.Need-same-length-6
 same-length-6 c = search needs
@@ -118,7 +118,7 @@ same-length-6 c = search needs
 returns-6 : tie.Need-returns-6
 returns-6 c =
     let h : length (now (c .before .before .before .before .before .before .before .before .before .args .out)) ≡ length (now (c .before .before .before .before .before .before .before .before .before .args .identity)) = rw (c .before .before .before .before .enum-told4 .given .1) at (c .before .before .before .before .before .before .before .before .before .pre) in
-    rw (c .before .before .before .before .enum-told4 .given .1) (c .before .before .copy-to2 .ensures .bytes ∙ filled (now (c .before .before .before .before .before .before .before .before .before .args .out)) (now (c .before .before .before .before .before .before .before .before .before .args .identity)) h)
+    rw (c .before .before .before .before .enum-told4 .given .1) (c .before .before .copy-to2 .ensures .bytes ∙ splice-whole (now (c .before .before .before .before .before .before .before .before .before .args .out)) (now (c .before .before .before .before .before .before .before .before .before .args .identity)) h)
 
 returns-7 : tie.Need-returns-7
 returns-7 c = let h : length (now (c .before .before .before .before .before .args .out)) ≡ 0 = rw (c .enum-told5 .given .1) at (c .before .before .before .before .before .pre) in rw (c .enum-told5 .given .1) (none-left (now (c .before .before .before .before .before .args .out)) h)

@@ -6,7 +6,7 @@ use native.Mathlib.Nat.{add-zero, add-assoc}
 use native.Mathlib.Omega.{arith}
 use borrow.Author.Tests.{ltb-true}
 use Rattle.utf8.specs.Skips.{Skips}
-use Rattle.utf8.proofs.Tests.{and-left, and-right}
+use Rattle.slices.proofs.Truths.{and-left, and-right}
 use Rattle.utf8.proofs.Skips.{skips-none, skips-on, skips-ascii}
 use Rattle.texts.proofs.all_ascii.Statement.{statement}
 use Rattle.texts.proofs.all_ascii.Tie as tie

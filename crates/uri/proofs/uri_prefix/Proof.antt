@@ -35,7 +35,7 @@ wide-requires c κs = search needs
 
 returns : tie.Need-returns
 unfolding prefixes entry ascii
-returns c = known _ _ _ _ refl refl refl refl (search needs) (c .wide .ensures) (c .before .before .copy-to .ensures .bytes)
+returns c = known _ _ _ _ refl refl refl refl (search needs) (c .wide .ensures .0) (c .before .before .copy-to .ensures .bytes)
 
 returns-2 : tie.Need-returns-2
 unfolding entry

@@ -3,7 +3,7 @@ use Rattle.walking.proofs.step.Statement.{statement}
 use Rattle.walking.proofs.step.Tie as tie
 use native.Mathlib.Omega.{arith}
 use borrow.Author.Tests.{le-leb, lt-leb, lt-ltb, le-ltb}
-use Rattle.records.proofs.Records.{never}
+use Rattle.slices.proofs.Truths.{never}
 use Rattle.walk.specs.Step.{stepOf}
 
 stopped-requires : tie.Need-stopped-requires
