@@ -1,9 +1,8 @@
 -- The read of a clean chunk leaves what the general way leaves.
 use mathlib.Core.Path.{_≡_, refl, sym, ap, _∙_}
-use mathlib.Core.Bool.{Bool, true, false, not, _&&_}
-use mathlib.Core.List.{List, [], _∷_}
-use Prim.Native.Nat.{ℕ, _+_, _-_, _/_, _%_, _≤_, _<_}
-use native.Mathlib.Omega.{arith}
+use mathlib.Core.Bool.{Bool, true, not, _&&_}
+use mathlib.Core.List.{List}
+use Prim.Native.Nat.{ℕ, _+_, _-_, _/_, _≤_}
 use lib.Dec.{eqb, ltb, leb}
 use lib.ListN.{length, take}
 use borrow.Author.Tests.{eqb-true, leb-true}
@@ -18,8 +17,7 @@ use Rattle.numbers.specs.declared.flat.Flat.{Flat}
 use Rattle.state.specs.Bytes.{bytesOf, flatOf}
 use Rattle.kept.specs.Bytes.{Bytes}
 use Rattle.kept.proofs.Decode.{bytes-are}
-use Rattle.telling.specs.Left.{Left, replyLeft}
-use Rattle.wiping.specs.Onward.{wipes, bare, moved, Onto, Move}
+use Rattle.wiping.specs.Onward.{wipes, bare, moved, Move}
 use Rattle.wiping.specs.Sweep.{Passes, chunkBytes, swept, sweptLeft, Clean}
 use Rattle.wiping.specs.declared.after.Onward.the-variants as O
 use Rattle.wiping.specs.declared.sweep.Swept.{Swept}
