@@ -133,7 +133,7 @@ module _ (l : List ℕ) (n : length l ≡ 20) (b : Bytes l) where
       cons i (twoAt l i % 256) (twoAt l i / 256 % 256 ∷ xs) (omega (arith, h)) lo
       (cons (suc i) (twoAt l i / 256 % 256) xs (omega (arith, h)) (hi ∙ ap (λ (k : ℕ). getD l k 0) s) g)
 
-  bytes-are : bytesOf (flatOf l) ≡ l
+  pub bytes-are : bytesOf (flatOf l) ≡ l
   bytes-are =
       let h : length l ≤ 20 = omega (arith, n) in
       let end : drop 20 l ≡ [] = drop-of-length-le l h in

@@ -1,15 +1,12 @@
 // Where an acknowledge leads a wipe, if it is one that calls leave and goes on.
 ghost use mathlib.Core.Path.{_≡_};
-ghost use mathlib.Core.Bool.{true};
-ghost use Prim.Native.Nat.{_≤_, _<_};
+ghost use Prim.Native.Nat.{_≤_};
 ghost use lib.ListN.{length};
-ghost use Rattle.wipe.specs.Scrub.{readStep};
 ghost use Rattle.wiping.specs.Onward.{ledOf, Leads, AnyLeads};
 use chunks::reread_step;
 use found::next_row;
 use found::read_step;
 use machine::wait::Wait;
-use scan::all_zero;
 use session::session::Session;
 use sound::chunk_stop;
 use sound::row_sound;
@@ -29,34 +26,12 @@ fn led(rows: usize, s: Scrubbed) -> Onward
     }
 }
 
-// The read of a chunk. On a clean tile nearly every chunk is whole, blank and not the last: that is seen first, and at once, since 64 is
-// a length that the compiler knows.
-fn from_read(rows: usize, p: Chunk, reply: &[u8]) -> Onward
-    requires { ⌜ (p .at < 69000) × (64 ≤ length (now reply)) ⌝ }
-    ensures { λ o. ⌜ o ≡ ledOf rows (readStep p true (now (reply .entry))) ⌝ }
-{
-    let next = p.at + 64;
-    if (0 < p.left) & (next <= p.end) {
-        if all_zero(reply, 0, 64) {
-            return Onward::To(
-                rows,
-                Scrub::Read(Chunk {
-                    left: p.left - 1,
-                    at: next,
-                    end: p.end,
-                }),
-            );
-        }
-    }
-    led(rows, read_step(p, true, reply))
-}
-
 pub fn after_read(m: usize, rows: usize, p: Chunk, reply: &[u8]) -> Onward
     requires { ⌜ (m ≤ 8192) × (64 ≤ length (now reply)) ⌝ }
     ensures { λ r. ⌜ Leads m rows (Scrub.Read p) (now (reply .entry)) r ⌝ }
 {
     if (0 < chunk_stop(m, p)) & (rows <= p.at / 16) {
-        return from_read(rows, p, reply);
+        return led(rows, read_step(p, true, reply));
     }
     Onward::Not
 }

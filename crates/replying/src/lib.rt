@@ -9,10 +9,14 @@ use leaving::leave;
 use settling::settle;
 use shortcut::next_of;
 use stages::stage::Stage;
+use state::bytes::STATE_LEN;
 use steps::stage_step;
+use sweeping::clean_of;
+use sweeping::sweep;
 use telling::opening::Heard;
 use telling::step::step;
 use wiping::short::Next;
+use wiping::sweep::Swept;
 
 // The call goes on from the stage that waited on this reply.
 fn go_on(
@@ -52,8 +56,8 @@ fn by_stage(
     }
 }
 
-// A reply: 0 for refused, any other number for acknowledged.
-pub fn reply(
+// A reply, by the short way of a wipe where that is open.
+fn by_way(
     state: &mut [u8],
     transfer: &mut [u8],
     reply: &mut [u8],
@@ -68,4 +72,32 @@ pub fn reply(
         Next::To(f, s) => leave(state, transfer, f, s),
         Next::Not => by_stage(state, transfer, reply, lent, out, ack),
     }
+}
+
+// A reply: 0 for refused, any other number for acknowledged. A clean chunk is looked for first; the rest is called from two places, so that
+// the compiler leaves it out of here, and with it what it keeps on the stack.
+pub fn reply(
+    state: &mut [u8],
+    transfer: &mut [u8],
+    reply: &mut [u8],
+    lent: &[u8],
+    out: &[u8],
+    ack: u32,
+) -> u64
+    ensures { λ r. ⌜ Leaves (replyLeft (now (state .entry)) (now (transfer .entry)) (now (reply .entry)) (now (lent .entry)) (now (out .entry)) ack) r (now (state .exit)) (now (transfer .exit)) (now (reply .exit)) ⌝ }
+{
+    if (state.len() == STATE_LEN)
+        & (ack != 0)
+        & (19 <= transfer.len())
+        & (64 <= reply.len())
+        & (lent.len() == 0)
+        & (out.len() == 0)
+    {
+        let n = clean_of(state, reply);
+        return match n {
+            Swept::To(p) => sweep(state, transfer, p),
+            Swept::Not => by_way(state, transfer, reply, lent, out, ack),
+        };
+    }
+    by_way(state, transfer, reply, lent, out, ack)
 }

@@ -1,3 +1,4 @@
 pub mod Cleans
 pub mod Wipings
 pub mod Shorts
+pub mod Sweeps

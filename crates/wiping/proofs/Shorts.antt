@@ -139,7 +139,7 @@ module _ (l t r lent out : List ℕ) (ack : ℕ) (long : length l ≡ 20) (ht : 
       let a : misfit q st (length t) (length r) (length lent) (length out) ≡ false = fit-all q st (length t) (length r) (length lent) (length out) ht hr (hl ∙ sym z) (ho ∙ sym k) in
       rw (n, o, a)
 
-  short-is : (f : Flat) → f ≡ flatOf l → (n : ℕ) (next : Scrub) → wipes (f .stage) (f .code .which) ≡ true → f .lent ≡ 0 → f .mark ≤ 8192 → Move f r n next
+  pub short-is : (f : Flat) → f ≡ flatOf l → (n : ℕ) (next : Scrub) → wipes (f .stage) (f .code .which) ≡ true → f .lent ≡ 0 → f .mark ≤ 8192 → Move f r n next
       → replyLeft l t r lent out ack ≡ shortLeft (moved f n next) next t r
   short-is f ef n next w e inside v =
       let s = v .from in
@@ -200,12 +200,18 @@ scrub-fits n (C.Row p r) = tt
 scrub-fits n (C.Wait p r w) = wait-fits n w
 scrub-fits n (C.Reread p) = omega arith
 
+-- the transfer of a step, and its number, as the code has them
+pub asks-is : (s : Scrub) (a : Ask) (frame t sending : List ℕ) (j step : ℕ) → a ≡ scrubAsk s → frame ≡ padded (sent (meant [] a)) → Wrote t 0 frame sending j
+    → step ≡ askStep false a → (step ≡ transferStep false (meant [] (scrubAsk s))) × (sending ≡ padded (sent (meant [] (scrubAsk s))) ++ drop 19 t)
+asks-is s a frame t sending j step ea ef wf es = (
+  (es ∙ ap (askStep false) ea) ∙ ask-step false [] (scrubAsk s) (scrub-fits 0 s),
+  put-frame t frame sending [] j (scrubAsk s) (scrub-fits 0 s) (ef ∙ ap (λ (x : Ask). padded (sent (meant [] x))) ea) wf,
+)
+
 -- what the code of `leave` comes to
 pub leave-is : (s : Scrub) (f : Flat) (a : Ask) (b state after : List ℕ) (k : ℕ) (frame t sending : List ℕ) (j step : ℕ) → length state ≡ 20 → b ≡ bytesOf f
     → Wrote state 0 b after k → a ≡ scrubAsk s → frame ≡ padded (sent (meant [] a)) → Wrote t 0 frame sending j → step ≡ askStep false a
     → (step ≡ transferStep false (meant [] (scrubAsk s))) × (after ≡ bytesOf f) × (sending ≡ padded (sent (meant [] (scrubAsk s))) ++ drop 19 t)
-leave-is s f a b state after k frame t sending j step n eb wb ea ef wf es = (
-  (es ∙ ap (askStep false) ea) ∙ ask-step false [] (scrubAsk s) (scrub-fits 0 s),
-  put-all state b after k (n ∙ sym (ap length eb)) wb ∙ eb,
-  put-frame t frame sending [] j (scrubAsk s) (scrub-fits 0 s) (ef ∙ ap (λ (x : Ask). padded (sent (meant [] x))) ea) wf,
-)
+leave-is s f a b state after k frame t sending j step n eb wb ea ef wf es =
+    let h = asks-is s a frame t sending j step ea ef wf es in
+    (h .0, put-all state b after k (n ∙ sym (ap length eb)) wb ∙ eb, h .1)

@@ -102,7 +102,7 @@ row-place p h =
 still-code : (c : Code) (phase inner count : ℕ) → c .phase ≡ phase → c .inner ≡ inner → c .count ≡ count → c ≡ codeOf phase inner (c .which) count
 still-code c phase inner count a b d = λ i. record { phase = a i; inner = b i; which = c .which; count = d i }
 
-bare-says : (c : Code) (p : Place) → bare c p ≡ true → (c .inner ≡ 0) × (c .count ≡ 0) × (p .bits ≡ 0) × (p .row ≡ 0)
+pub bare-says : (c : Code) (p : Place) → bare c p ≡ true → (c .inner ≡ 0) × (c .count ≡ 0) × (p .bits ≡ 0) × (p .row ≡ 0)
 bare-says c p e =
     let h3 = both _ (eqb (p .row) 0) e in
     let h2 = both _ (eqb (p .bits) 0) (h3 .0) in

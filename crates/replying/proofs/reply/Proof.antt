@@ -1,30 +1,27 @@
 use borrow.Author.Needs.{needs}
 use Rattle.replying.proofs.reply.Statement.{statement}
 use Rattle.replying.proofs.reply.Tie as tie
-use Rattle.replying.proofs.reply.Reads as reads
-use Rattle.replying.proofs.reply.Lts as lts
-use Rattle.replying.proofs.by_stage.Reads as by-stage-reads
-use Rattle.leaving.proofs.leave.Reads as leave-reads
-use Rattle.shortcut.proofs.next_of.Reads as next-of-reads
 use mathlib.Core.Path.{refl, sym, subst}
 use denote.Ref.{now}
-use Rattle.wiping.specs.Onward.{Short}
+use lib.ListN.{length}
+use Rattle.wiping.specs.Sweep.{Clean}
+use Rattle.wiping.proofs.Sweeps.{sweep-may}
 use Rattle.entry.proofs.Calls.{leaves-as}
 
-next-of-requires : tie.Need-next-of-requires
-next-of-requires c κs = search needs
+clean-of-requires : tie.Need-clean-of-requires
+clean-of-requires c κs = let p = c .before .before .before .before .before .before .before .before in let h = sweep-may (length (now (p .args .state))) (p .args .ack) (length (now (p .args .transfer))) (length (now (p .args .reply))) (length (now (p .args .lent))) (length (now (p .args .out))) (c .before .before .if1 .taken) in (h .0, h .3)
 
 enum-known-n : tie.Need-enum-known-n
 enum-known-n c = search needs
 
-leave-requires : tie.Need-leave-requires
-leave-requires c κs = let h = subst (Short (now (c .before .before .before .before .before .before .before .before .before .before .before .before .before .before .args .state)) (now (c .before .before .before .before .before .before .before .before .before .before .before .before .before .before .args .transfer)) (now (c .before .before .before .before .before .before .before .before .before .before .before .before .before .before .args .reply)) (now (c .before .before .before .before .before .before .before .before .before .before .before .before .before .before .args .lent)) (now (c .before .before .before .before .before .before .before .before .before .before .before .before .before .before .args .out)) (c .before .before .before .before .before .before .before .before .before .before .before .before .before .before .args .ack)) (c .before .before .before .n .given .1) (c .before .before .before .before .before .next-of .ensures) in (h .0, h .1)
+sweep-requires : tie.Need-sweep-requires
+sweep-requires c κs = let p = c .before .before .before .before .before .before .before .before .before .before .before .before .before .before in let h = sweep-may (length (now (p .args .state))) (p .args .ack) (length (now (p .args .transfer))) (length (now (p .args .reply))) (length (now (p .args .lent))) (length (now (p .args .out))) (c .before .before .before .before .before .before .before .before .if1 .taken) in (h .0, h .2)
 
 enum-told : tie.Need-enum-told
 enum-told c = search needs
 
-by-stage-requires : tie.Need-by-stage-requires
-by-stage-requires c κs = search needs
+by-way-requires : tie.Need-by-way-requires
+by-way-requires c κs = search needs
 
 same-length : tie.Need-same-length
 same-length c = search needs
@@ -36,7 +33,7 @@ same-length-3 : tie.Need-same-length-3
 same-length-3 c = search needs
 
 returns : tie.Need-returns
-returns c = let h = subst (Short (now (c .before .before .before .before .before .before .before .before .before .before .before .before .before .before .before .before .before .before .before .args .state)) (now (c .before .before .before .before .before .before .before .before .before .before .before .before .before .before .before .before .before .before .before .args .transfer)) (now (c .before .before .before .before .before .before .before .before .before .before .before .before .before .before .before .before .before .before .before .args .reply)) (now (c .before .before .before .before .before .before .before .before .before .before .before .before .before .before .before .before .before .before .before .args .lent)) (now (c .before .before .before .before .before .before .before .before .before .before .before .before .before .before .before .before .before .before .before .args .out)) (c .before .before .before .before .before .before .before .before .before .before .before .before .before .before .before .before .before .before .before .args .ack)) (c .before .before .before .before .before .before .before .before .n .given .1) (c .before .before .before .before .before .before .before .before .before .before .next-of .ensures) in leaves-as _ _ (sym (h .2)) _ _ _ _ (record { step = c .before .before .before .before .leave .ensures .0; state = c .before .before .before .before .leave .ensures .1 .0; transfer = c .before .before .before .before .leave .ensures .1 .1; reply = refl })
+returns c = let p = c .before .before .before .before .before .before .before .before .before .before .before .before .before .before .before .before .before .before .before in let h = sweep-may (length (now (p .args .state))) (p .args .ack) (length (now (p .args .transfer))) (length (now (p .args .reply))) (length (now (p .args .lent))) (length (now (p .args .out))) (c .before .before .before .before .before .before .before .before .before .before .before .before .before .if1 .taken) in let g = subst (Clean (now (p .args .state)) (now (p .args .reply))) (c .before .before .before .before .before .before .before .before .n .given .1) (c .before .before .before .before .before .before .before .before .before .before .clean-of .ensures) in leaves-as _ _ (sym (g (now (p .args .transfer)) (now (p .args .lent)) (now (p .args .out)) (p .args .ack) (h .2) (h .4) (h .5) (h .1))) _ _ _ _ (record { step = c .before .before .before .before .sweep .ensures .0; state = c .before .before .before .before .sweep .ensures .1 .0; transfer = c .before .before .before .before .sweep .ensures .1 .1; reply = refl })
 
 same-length-4 : tie.Need-same-length-4
 same-length-4 c = search needs
@@ -48,17 +45,32 @@ same-length-6 : tie.Need-same-length-6
 same-length-6 c = search needs
 
 returns-2 : tie.Need-returns-2
-returns-2 c = c .before .before .before .before .before .before .by-stage .ensures
+returns-2 c = c .before .before .before .before .before .before .by-way .ensures
+
+by-way-requires-2 : tie.Need-by-way-requires-2
+by-way-requires-2 c κs = search needs
+
+same-length-7 : tie.Need-same-length-7
+same-length-7 c = search needs
+
+same-length-8 : tie.Need-same-length-8
+same-length-8 c = search needs
+
+same-length-9 : tie.Need-same-length-9
+same-length-9 c = search needs
+
+returns-3 : tie.Need-returns-3
+returns-3 c = c .before .before .before .before .before .before .by-way2 .ensures
 
 pub reply-spec : {M : Type 1} → statement M
 reply-spec =
     tie.close
     (tie.spec
-    next-of-requires
+    clean-of-requires
     enum-known-n
-    leave-requires
+    sweep-requires
     enum-told
-    by-stage-requires
+    by-way-requires
     same-length
     same-length-2
     same-length-3
@@ -66,4 +78,9 @@ reply-spec =
     same-length-4
     same-length-5
     same-length-6
-    returns-2)
+    returns-2
+    by-way-requires-2
+    same-length-7
+    same-length-8
+    same-length-9
+    returns-3)

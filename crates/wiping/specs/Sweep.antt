@@ -1,0 +1,48 @@
+-- A wipe's read of a clean chunk, on the bytes of its state. On a clean tile nearly every step is one.
+--
+--   Passes m rows p got x == where x is a chunk: a wipe that reads the chunk p goes on to read x, as `Onto` says
+--   chunkBytes p          == four bytes of the state: the chunks left after p, and where p is
+--   swept l p             == the state's bytes l, with those of p in them
+--   sweptLeft l p t r     == what a step leaves that goes on to read the chunk p
+--   Clean l r x           == where x is a chunk: an acknowledge that lends no data and no `out` leaves that
+use mathlib.Core.Path.{_≡_}
+use mathlib.Core.Bool.{true, false, not}
+use mathlib.Core.List.{List, [], _∷_, _++_}
+use Prim.Native.Nat.{ℕ, _/_, _%_, _≤_}
+use lib.Dec.{eqb}
+use lib.ListN.{length, drop}
+use Rattle.slices.specs.Bytes.{splice}
+use Rattle.protocol.specs.Transfer.{sent}
+use Rattle.machine.specs.Ask.{meant}
+use Rattle.wipe.specs.Scrub.{scrubAsk}
+use Rattle.wipe.specs.declared.scrub.Chunk.{Chunk}
+use Rattle.wipe.specs.declared.scrub.Scrub.the-variants.{Read}
+use Rattle.telling.specs.Step.{transferStep, padded}
+use Rattle.telling.specs.Left.{Left, replyLeft}
+use Rattle.wiping.specs.Onward.{Onto}
+use Rattle.wiping.specs.declared.sweep.Swept.{Swept}
+use Rattle.wiping.specs.declared.sweep.Swept.the-variants as S
+
+abbrev pub Passes : ℕ → ℕ → Chunk → List ℕ → Swept → Type 0
+Passes m rows p got (S.To q) = (q .end ≡ p .end) × Onto m rows (Read p) got rows (Read q)
+Passes m rows p got S.Not = Unit
+
+abbrev pub chunkBytes : Chunk → List ℕ
+chunkBytes p = p .left % 256 ∷ p .left / 256 % 256 ∷ p .at % 256 ∷ p .at / 256 % 256 ∷ []
+
+abbrev pub swept : List ℕ → Chunk → List ℕ
+swept l p = splice l 12 (chunkBytes p)
+
+abbrev pub sweptLeft : List ℕ → Chunk → List ℕ → List ℕ → Left
+sweptLeft l p t r = record {
+  step = transferStep false (meant [] (scrubAsk (Read p)));
+  state = swept l p;
+  transfer = padded (sent (meant [] (scrubAsk (Read p)))) ++ drop 19 t;
+  reply = r;
+}
+
+abbrev pub Clean : List ℕ → List ℕ → Swept → Type 0
+Clean l r (S.To p) =
+    (t lent out : List ℕ) (ack : ℕ) → 19 ≤ length t → length lent ≡ 0 → length out ≡ 0 → not (eqb ack 0) ≡ true
+    → replyLeft l t r lent out ack ≡ sweptLeft l p t r
+Clean l r S.Not = Unit
