@@ -5,10 +5,10 @@
 --   never                == nothing is no part
 --   stands               == the rest of a record's payload, where it is UTF-8, stands so
 --   text-stands          == so does the text of a record
-use mathlib.Core.Path.{_≡_, refl, ap, sym, _∙_}
+use mathlib.Core.Path.{_≡_, ap, sym, _∙_}
 use mathlib.Core.Bool.{true}
-use mathlib.Core.List.{List, [], _∷_, _++_}
-use Prim.Native.Nat.{ℕ, suc, _+_, _-_, _%_, _≤_, _<_}
+use mathlib.Core.List.{List, [], _∷_}
+use Prim.Native.Nat.{ℕ, _+_, _-_, _%_, _≤_, _<_}
 use native.Mathlib.Omega.{arith}
 use native.Mathlib.Numerals.{add-one}
 use borrow.Author.Tests.{leb-true}
@@ -18,7 +18,7 @@ use lib.Dec.{leb, ltb}
 use Rattle.slices.proofs.Cases.{pick-cases}
 use Rattle.utf8.specs.Utf8.{utf8}
 use Rattle.records.specs.declared.Record.{Record}
-use Rattle.pieces.specs.Parts.{isOf, partOf, payloadOf}
+use Rattle.pieces.specs.Parts.{isOf, payloadOf}
 use Rattle.pieces.proofs.Parts.{part-inside}
 use Rattle.contents.specs.declared.Part.{Part}
 use Rattle.contents.specs.declared.Part.the-variants.{At, Nothing}

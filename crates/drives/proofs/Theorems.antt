@@ -2,7 +2,7 @@
 -- its answer and its mark, and the rows that it counted are the acknowledged row writes of that trace.
 use mathlib.Core.Path.{_≡_, refl, sym, subst, ap, ap₂, _∙_}
 use mathlib.Core.Bool.{true}
-use mathlib.Core.List.{List, [], _∷_}
+use mathlib.Core.List.{List, _∷_}
 use Prim.Native.Nat.{ℕ, _+_, _≤_}
 use lib.ListN.{length}
 use Rattle.protocol.specs.Transfer.{Transfer}
@@ -10,7 +10,6 @@ use Rattle.protocol.specs.Mark.{Mark}
 use Rattle.protocol.specs.Call.{Call}
 use Rattle.protocol.specs.Calls.{callOf}
 use Rattle.protocol.specs.Trace.{Replies, later, Exchange, trace, answerOf, markOf, rowsOf, Report, nothing, noted, reportOn, End}
-use Rattle.machine.specs.Ask.{meant}
 use Rattle.stages.specs.Turns.{stageAsk, stageStep, startOf, lentTo}
 use Rattle.stages.specs.declared.stage.Turn.{Turn}
 use Rattle.session.specs.Sound.{sound}

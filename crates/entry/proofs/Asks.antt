@@ -1,13 +1,11 @@
 -- What a session that calls leave asks for fits the buffers.
-use mathlib.Core.Path.{_≡_, refl, sym, subst, ap, _∙_}
+use mathlib.Core.Path.{_≡_, refl}
 use mathlib.Core.Bool.{Bool, true, false, not, _&&_}
-use Prim.Native.Nat.{ℕ, _+_, _-_, _≤_, _<_, min}
+use Prim.Native.Nat.{ℕ, _+_, _-_, _≤_}
 use native.Mathlib.Omega.{arith}
-use lib.Dec.{eqb, leb}
+use lib.Dec.{eqb}
 use borrow.Author.Tests.{eqb-true, ltb-false, not-true}
-use Rattle.scan.specs.Rows.{rowLen}
 use Rattle.scan.proofs.Cutting.{row-most}
-use Rattle.protocol.specs.Mark.{Mark}
 use Rattle.protocol.specs.Write.{past}
 use Rattle.machine.specs.Switch.{switchAsk}
 use Rattle.machine.specs.declared.switch.Switch.{Switch}
@@ -17,7 +15,7 @@ use Rattle.password.specs.declared.Open.the-variants as O
 use Rattle.storing.specs.declared.Store.the-variants as T
 use Rattle.setup.specs.declared.setup.Setup.{Setup}
 use Rattle.setup.specs.declared.setup.Setup.the-variants as U
-use Rattle.writing.specs.Write.{writeAsk, pieceOf}
+use Rattle.writing.specs.Write.{writeAsk}
 use Rattle.writing.specs.declared.write.Write.{Write}
 use Rattle.writing.specs.declared.write.Write.the-variants as K
 use Rattle.stages.specs.Turns.{stageAsk}
@@ -34,7 +32,6 @@ use Rattle.slices.proofs.Truths.{both}
 use Rattle.kept.proofs.Pieces.{WriteIn, write-says}
 use Rattle.kept.proofs.Sounds.{mark-inside, open-sound}
 use Rattle.kept.proofs.Ables.{able}
-use Rattle.kept.proofs.Small.{flat-small}
 use Rattle.wiping.proofs.Shorts.{wait-fits, scrub-fits}
 use Rattle.telling.specs.Step.{AskFits}
 use Rattle.telling.specs.Fit.{StageFits, TurnFits}

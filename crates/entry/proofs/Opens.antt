@@ -15,7 +15,7 @@ use Rattle.stages.specs.Turns.{stageAsk, stageStep, startOf, lentTo}
 use Rattle.stages.specs.declared.stage.Stage.{Stage}
 use Rattle.stages.specs.declared.stage.Turn.{Turn}
 use Rattle.session.specs.Sound.{sound}
-use Rattle.session.specs.Steps.{entered, counted, outOf}
+use Rattle.session.specs.Steps.{counted, outOf}
 use Rattle.session.specs.declared.session.Now.{Now}
 use Rattle.session.specs.declared.session.Now.the-variants as N
 use Rattle.session.specs.declared.session.Session.{Session}
@@ -34,7 +34,6 @@ use Rattle.stages.specs.Able.{Able}
 use Rattle.kept.proofs.Ables.{able}
 use Rattle.telling.specs.declared.opening.Opened.{Opened}
 use Rattle.telling.specs.declared.opening.Opened.the-variants as O
-use Rattle.telling.specs.declared.opening.Heard.{Heard}
 use Rattle.telling.specs.declared.opening.Heard.the-variants as H
 use Rattle.entry.specs.Going.{Going, Inside}
 use Rattle.entry.proofs.Asks.{stage-fits, turn-fits}

@@ -1,6 +1,5 @@
 // Puts the parts of an image together in a lent buffer, each byte once: what stands before the payload, and the whole image.
 // Whoever calls has judged that they fit; every byte after the place that is returned keeps what it was.
-ghost use mathlib.Core.Path.{_≡_};
 ghost use mathlib.Core.List.{_++_};
 ghost use Prim.Native.Nat.{_+_, _≤_, _<_, _^_};
 ghost use lib.ListN.{length};

@@ -9,7 +9,7 @@
 --   after v bs out          == what then stands in the buffer: bs in front and the rest kept, or, refused, every byte as it was
 --   builtNumber b           == document 01's number of an answer: 0, or the refusal's
 --   builtValues b           == its values: the place, or what the refusal carries
-use mathlib.Core.Bool.{Bool, true, false, not}
+use mathlib.Core.Bool.{Bool, not}
 use mathlib.Core.List.{List, [], _∷_, _++_}
 use Prim.Native.Nat.{ℕ}
 use lib.ListN.{length, drop}

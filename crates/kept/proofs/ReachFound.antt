@@ -11,8 +11,8 @@ use native.Mathlib.Omega.{arith}
 use lib.ListN.{take, replicate}
 use lib.Dec.{eqb}
 use Rattle.slices.specs.Pick.{pick}
-use Rattle.slices.proofs.Truths.{both, both-so, false-of, never}
-use Rattle.scan.specs.Zeros.{blank}
+use Rattle.slices.proofs.Truths.{false-of, never}
+use Rattle.scan.proofs.Blanks.{blank-take}
 use Rattle.protocol.specs.Mark.{Mark}
 use Rattle.protocol.specs.Scrub.{dirtyRows}
 use Rattle.protocol.specs.declared.answer.TagError.the-variants.{NotTaken}
@@ -160,13 +160,8 @@ says-zeros p = record { bytes = four-bytes false false false false; enough = ome
 pub next-read : (m : Mark) (p : Chunk) → ChunkIn m p → nextChunk p ≡ readStep p true zeros
 next-read m p i = ap (afterRead p) (sym (four-read m p i false false false false never never never))
 
-blank-part : (k : ℕ) (l : List ℕ) → blank l ≡ true → blank (take k l) ≡ true
-blank-part zero l e = refl
-blank-part (suc k) [] e = refl
-blank-part (suc k) (x ∷ l) e = let a = both (eqb x 0) (blank l) e in both-so _ _ (a .0) (blank-part k l (a .1))
-
 pub next-reread : (p : Chunk) → nextChunk p ≡ rereadStep p true zeros
-next-reread p = ap (λ (b : Bool). pick b (nextChunk p) (Not NotTaken)) (sym (blank-part (sizeOf (p .at) (p .end)) zeros refl))
+next-reread p = ap (λ (b : Bool). pick b (nextChunk p) (Not NotTaken)) (sym (blank-take (sizeOf (p .at) (p .end)) zeros refl))
 
 module _ (m : Mark) (p : Chunk) (r : Rows) (i : ChunkIn m p) (q : RowIn p r) where
   -- r is the row j of its chunk

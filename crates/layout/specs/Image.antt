@@ -7,8 +7,8 @@
 --   uriImage area code t      == the image of a URI: its prefix's code, and the rest
 --   mimeImage area kind p     == the image of a payload with a MIME type
 --   front area f kind p       == what stands before the payload, of p bytes, of such an image
-use mathlib.Core.Bool.{Bool, true, false}
-use mathlib.Core.List.{List, [], _∷_, _++_}
+use mathlib.Core.Bool.{true, false}
+use mathlib.Core.List.{List, [], _++_}
 use Prim.Native.Nat.{ℕ}
 use lib.ListN.{length}
 use lib.Dec.{leb}

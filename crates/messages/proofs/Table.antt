@@ -16,7 +16,7 @@ use lib.Seq.{getD-take, getD-drop}
 use lib.Dec.{ltb, eqb}
 use Rattle.slices.specs.Pick.{pick}
 use Rattle.slices.specs.Bytes.{splice}
-use Rattle.slices.proofs.Cases.{pick-cases, lt-or-ge}
+use Rattle.slices.proofs.Cases.{pick-cases}
 use Rattle.slices.proofs.Splice.{splice-front}
 use Rattle.slices.proofs.Truths.{pick-true}
 use Rattle.uri.specs.Prefixes.{ascii}

@@ -2,10 +2,9 @@
 --
 --   Holds f m p     == in the phase `quiet`: RF is off and the mark covers the memory; in `live`: that, or a report
 use mathlib.Core.Path.{_≡_, refl, subst, sym}
-use mathlib.Core.Bool.{Bool, true, false}
+use mathlib.Core.Bool.{true}
 use mathlib.Core.List.{List, []}
 use Prim.Native.Nat.{ℕ}
-use native.Mathlib.Omega.{arith}
 use Rattle.slices.proofs.Truths.{never}
 use Rattle.protocol.specs.Mark.{Mark, whole}
 use Rattle.protocol.specs.Tag.{readyPolls}

@@ -1,14 +1,14 @@
 -- The part is as general as document 01's words: every cycle, every change by a phone, everything that a cut may leave.
 use mathlib.Core.Path.{_≡_, refl, sym, _∙_}
 use mathlib.Core.Bool.{Bool, true, false}
-use mathlib.Core.List.{List, [], _∷_, append-nil}
+use mathlib.Core.List.{List, [], _∷_}
 use Prim.Native.Nat.{ℕ, _+_, _≤_}
 use native.Mathlib.Omega.{arith}
-use lib.ListN.{length, replicate, length-replicate, drop-of-length-le}
+use lib.ListN.{length, replicate, length-replicate}
 use lib.Seq.{take-all}
 use borrow.Author.Tests.{eq-eqb, ne-eqb, le-leb}
 use Rattle.slices.specs.Bytes.{splice}
-use Rattle.slices.proofs.Splice.{splice-front, splice-whole}
+use Rattle.slices.proofs.Splice.{splice-whole}
 use Rattle.part.specs.Part.{Part, ThePart}
 use Rattle.part.specs.Orders.{ordered}
 use Rattle.part.specs.Power.{writes, visited, reached, cut}

@@ -5,7 +5,7 @@
 --   part-at-is         == the part that is told lies in the image, and its bytes are those of `partOf`: `kindPart` with `kindOf`,
 --                         `idPart` with `idOf`, `payloadPart` with `payloadOf`
 --   part-at-none       == where none is told, that part is empty
-use mathlib.Core.Path.{_≡_, ap, sym, _∙_}
+use mathlib.Core.Path.{_≡_, ap, _∙_}
 use mathlib.Core.List.{List, []}
 use mathlib.Core.Logic.{⊎-elim}
 use Prim.Native.Nat.{ℕ, _+_, _≤_, _<_}

@@ -12,7 +12,7 @@ use Rattle.slices.proofs.Cases.{pick-cases}
 use Rattle.records.specs.declared.Record.{Record}
 use Rattle.records.specs.declared.Parsed.{Parsed}
 use Rattle.records.specs.declared.Parsed.the-variants as parsed
-use Rattle.heads.specs.Heads.{flag, headLen, idLen, payloadLen}
+use Rattle.heads.specs.Heads.{flag, headLen}
 use Rattle.records.specs.Parse.{wholeOf, parseOf}
 use Rattle.walk.specs.declared.Cursor.{Cursor}
 use Rattle.walk.specs.declared.Entry.{Entry}

@@ -5,7 +5,7 @@ use mathlib.Core.Bool.{Bool, true, false, _&&_}
 use Prim.Native.Nat.{ℕ, zero, suc, _+_, _-_, _%_, _≤_, min}
 use native.Mathlib.Omega.{arith}
 use lib.ListN.{length, take, drop, length-take}
-use Rattle.scan.specs.Rows.{row, rowLen, rowCount}
+use Rattle.scan.specs.Rows.{rowLen, rowCount}
 use Rattle.scan.specs.Zeros.{blank, alike}
 use Rattle.scan.proofs.Cutting.{row-room}
 use Rattle.protocol.specs.Transfer.{Transfer, write, delay, place, isRow}

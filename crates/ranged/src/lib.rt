@@ -1,7 +1,6 @@
 // Where the calls begin that are given a range of the memory: at their first transfer, or over at once.
 ghost use mathlib.Core.Path.{_≡_};
 ghost use Prim.Native.Nat.{_+_, _≤_};
-ghost use lib.ListN.{length};
 ghost use Rattle.protocol.specs.Call as call;
 ghost use Rattle.protocol.specs.Mark.{widened};
 ghost use Rattle.protocol.specs.Write.{past};

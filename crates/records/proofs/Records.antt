@@ -6,7 +6,7 @@
 --   short-way      == a plain record's head takes three bytes, and the payload's length is the third
 --   more-follow    == a plain record is not the last
 use mathlib.Core.Path.{_≡_, subst}
-use mathlib.Core.Bool.{true, false}
+use mathlib.Core.Bool.{false}
 use mathlib.Core.List.{List}
 use Prim.Native.Nat.{ℕ, _+_, _/_, _%_, _≤_, _<_}
 use native.Mathlib.Omega.{arith}

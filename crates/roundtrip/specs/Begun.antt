@@ -3,7 +3,7 @@
 --   begins                         == the bytes that the begin call of a record writes
 --   Begun head rest out o₁ o₂ o₃   == o₁ is the buffer after the front and `head`, o₂ after `rest` was put there, o₃ closed
 --   begun-is-whole                 == o₃ is then the buffer that the whole builder leaves
-use mathlib.Core.Path.{_≡_, sym, ap, _∙_}
+use mathlib.Core.Path.{_≡_, ap, _∙_}
 use mathlib.Core.List.{List, _++_}
 use Prim.Native.Nat.{ℕ, _+_, _≤_}
 use native.Mathlib.Omega.{arith}

@@ -3,8 +3,7 @@
 --   Cards   == the cards, a field each (card 3 is `card3` and `card3·more`, and so on)
 --   cards   == they hold
 use mathlib.Core.Path.{_≡_, refl}
-use mathlib.Core.List.{List, [], _∷_}
-use Prim.Native.Nat.{ℕ}
+use mathlib.Core.List.{[], _∷_}
 use Rattle.slices.specs.Walk.{walk, walkF}
 use Rattle.slices.specs.Bytes.{be}
 use Rattle.utf8.specs.Utf8.{table, fits, rowLen, firstLen, utf8Step, utf8}

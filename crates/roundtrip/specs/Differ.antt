@@ -7,12 +7,10 @@
 use mathlib.Core.Path.{_≡_, refl, ap, sym, _∙_}
 use mathlib.Core.List.{List, [], _∷_, _++_}
 use mathlib.Core.Logic.{⊎-elim}
-use Prim.Native.Nat.{ℕ, suc, _+_, _≤_, _<_}
+use Prim.Native.Nat.{ℕ, _+_, _≤_, _<_}
 use native.Mathlib.Omega.{arith}
 use lib.ListN.{length, take, drop}
 use lib.Seq.{take-at, drop-at}
-use lib.Dec.{leb, ltb}
-use Rattle.slices.specs.Pick.{pick}
 use Rattle.slices.proofs.Cases.{lt-or-ge}
 use Rattle.layout.specs.Lengths.{headLen, blockLen, recordLen, imageLen}
 use Rattle.layout.specs.Record.{whole}

@@ -9,8 +9,8 @@
 --   text-back           == and `text` gives the text back, where it is UTF-8
 --   one-record          == two records that read back from one image say the same (Same r q)
 --   uri-back            == and `uri` the code, its prefix and the rest, for the codes 0 to 35
-use mathlib.Core.Path.{_≡_, refl, ap, ap₂, sym, _∙_, subst}
-use mathlib.Core.Bool.{Bool, true, false}
+use mathlib.Core.Path.{_≡_, refl, ap, ap₂, sym, _∙_}
+use mathlib.Core.Bool.{Bool, true}
 use mathlib.Core.List.{List, [], _∷_, _++_, append-assoc, append-nil}
 use mathlib.Core.Logic.{⊎-elim}
 use Prim.Native.Nat.{ℕ, suc, _+_, _-_, _%_, _≤_, _<_, _^_}
@@ -18,10 +18,10 @@ use native.Mathlib.Omega.{arith}
 use borrow.Author.Tests.{le-leb, lt-leb, lt-ltb, le-ltb}
 use lib.ListN.{length, take, drop, length-append, length-drop}
 use lib.Seq.{take-at, drop-at, drop-drop, take-add, length-take-le, drop-append-add}
-use lib.Dec.{leb, ltb}
+use lib.Dec.{leb}
 use Rattle.slices.specs.Pick.{pick}
 use Rattle.slices.specs.Bytes.{be}
-use Rattle.slices.proofs.Cases.{lt-or-ge, pick-cases}
+use Rattle.slices.proofs.Cases.{lt-or-ge}
 use Rattle.utf8.specs.Utf8.{utf8}
 use Rattle.uri.specs.Prefixes.{prefixAnswer}
 use Rattle.layout.specs.Lengths.{recordLen}
@@ -32,16 +32,15 @@ use Rattle.layout.specs.Payload.{wellKnown, textKind, uriKind, textPayload, eng
 use Rattle.layout.specs.Image.{imageOf, image, textImage, uriImage}
 use Rattle.layout.proofs.Images.{container-length, record-length}
 use Rattle.layout.proofs.Sizes.{record-is}
-use Rattle.blocks.specs.declared.Message.{Message}
 use Rattle.blocks.specs.declared.Message.the-variants.{At}
-use Rattle.blocks.specs.Read.{readOf, messageFrom}
+use Rattle.blocks.specs.Read.{readOf}
 use Rattle.grammar.specs.Blocks.{Head, large, Size, one, three, none, Stops}
 use Rattle.grammar.specs.Blocks as grammar
 use Rattle.grammar.proofs.BlocksComplete.{head-read, passes-read}
 use Rattle.records.specs.declared.Record.{Record}
 use Rattle.records.specs.declared.Parsed.the-variants as parsed
 use Rattle.records.specs.Parse.{parseOf, endOf}
-use Rattle.pieces.specs.Parts.{partOf, kindOf, idOf, payloadOf, isOf}
+use Rattle.pieces.specs.Parts.{partOf, kindOf, idOf, payloadOf}
 use Rattle.grammar.specs.Records.{Allowed, headOf, placesOf}
 use Rattle.grammar.proofs.RecordsComplete.{complete, kind-there, id-there, payload-there, bytes-length}
 use Rattle.pieces.proofs.Parts.{part-inside, part-outside}

@@ -20,6 +20,17 @@ and-true : (a : Bool) → a && true ≡ a
 and-true true = refl
 and-true false = refl
 
+-- a part of zeros
+pub blank-take : (k : ℕ) (l : List ℕ) → blank l ≡ true → blank (take k l) ≡ true
+blank-take zero l e = refl
+blank-take (suc k) [] e = refl
+blank-take (suc k) (x ∷ xs) e = rw (and-left (eqb x 0) (blank xs) e) (blank-take k xs (and-right (eqb x 0) (blank xs) e))
+
+pub blank-drop : (k : ℕ) (l : List ℕ) → blank l ≡ true → blank (drop k l) ≡ true
+blank-drop zero l e = e
+blank-drop (suc k) [] e = refl
+blank-drop (suc k) (x ∷ xs) e = blank-drop k xs (and-right (eqb x 0) (blank xs) e)
+
 blank-last : (s : List ℕ) (b : ℕ) → blank (s ++ b ∷ []) ≡ blank s && eqb b 0
 blank-last [] b = and-true (eqb b 0)
 blank-last (x ∷ xs) b = ap (λ (t : Bool). eqb x 0 && t) (blank-last xs b) ∙ sym (and-assoc (eqb x 0) (blank xs) (eqb b 0))

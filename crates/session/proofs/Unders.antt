@@ -1,13 +1,13 @@
 -- What the tests of a sound session say.
-use mathlib.Core.Path.{_≡_, refl, sym, ap, _∙_}
-use mathlib.Core.Bool.{Bool, true, false, _&&_}
+use mathlib.Core.Path.{_≡_, sym, _∙_}
+use mathlib.Core.Bool.{Bool, true, _&&_}
 use Prim.Native.Nat.{ℕ, _+_, _-_, _/_, _%_, _≤_, _<_, min}
 use native.Mathlib.Omega.{arith}
 use lib.Dec.{eqb, ltb, leb}
 use borrow.Author.Tests.{ltb-true, leb-true, eq-eqb, ne-eqb, lt-ltb, le-ltb}
 use Rattle.slices.specs.Pick.{pick}
 use Rattle.slices.proofs.Truths.{both}
-use Rattle.scan.specs.Rows.{rowLen, rowCount}
+use Rattle.scan.specs.Rows.{rowCount}
 use Rattle.scan.proofs.Cutting.{count-more}
 use Rattle.protocol.specs.Mark.{Mark, wipeEnd}
 use Rattle.wipe.specs.declared.scrub.Chunk.{Chunk}

@@ -1,6 +1,5 @@
 // The session's entry points: a call is started, its transfers are asked for one by one, its replies given. Each returns the 64-bit
 // step (telling/specs/Step) and leaves in the lent buffers what telling/specs/Left says, for all inputs.
-ghost use mathlib.Core.Path.{_≡_};
 ghost use lib.ListN.{length};
 ghost use Rattle.protocol.specs.Call as call;
 ghost use Rattle.telling.specs.Left.{Leaves, startLeft};

@@ -30,7 +30,6 @@ use Rattle.protocol.specs.Mark as mark
 use Rattle.protocol.specs.Mark.{none}
 use Rattle.protocol.specs.Call.{Call}
 use Rattle.protocol.specs.Answer.{answerNumber, answerValue}
-use Rattle.protocol.specs.declared.answer.Answer.{Answer}
 use Rattle.machine.specs.Ask.{meant}
 use Rattle.stages.specs.Turns.{stageAsk, stageStep, startOf, lentTo}
 use Rattle.stages.specs.Able.{gotBy}

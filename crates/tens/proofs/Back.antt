@@ -4,8 +4,7 @@
 --   tile-back           == the registers come back from their ten numbers
 use mathlib.Core.Path.{_≡_, refl}
 use mathlib.Core.Bool.{Bool, true, false}
-use Prim.Native.Nat.{ℕ, _<_, _%_}
-use native.Mathlib.Omega.{arith}
+use Prim.Native.Nat.{_<_}
 use Rattle.slices.proofs.Numbers.{byte-rest}
 use Rattle.part.specs.declared.registers.Cycle.{Cycle}
 use Rattle.part.specs.declared.registers.Cycle.the-variants.{Nothing, Row, Byte}

@@ -8,7 +8,7 @@
 --   prefixAnswer code == what looking a code up answers: whether it is one of the 36, and its entry (empty where it is not)
 use mathlib.Core.List.{List, [], _∷_, _++_}
 use Prim.Native.Nat.{ℕ, zero, suc, _+_, _-_}
-use Prim.Native.Char.{Char, code}
+use Prim.Native.Char.{code}
 use Prim.Native.String.{String, len, charAt}
 use lib.ListN.{length, getD}
 use lib.Dec.{ltb}

@@ -3,7 +3,7 @@
 --   narrow-none   == nothing passed, where no later byte stands
 --   narrow-on     == one more byte passed. Where a later byte stands next, it is passed too: its character's first byte was
 use mathlib.Core.Path.{_≡_, refl, sym, subst, _∙_}
-use mathlib.Core.Bool.{Bool, true, false, not, _&&_, _||_}
+use mathlib.Core.Bool.{Bool, true, false, not, _&&_}
 use mathlib.Core.Logic.{_⊎_, inl, inr}
 use mathlib.Core.List.{List}
 use Prim.Native.Nat.{ℕ, _+_, _≤_, _<_}

@@ -1,13 +1,14 @@
 -- A chunk that is whole, blank and not the last leads to the next one.
 use mathlib.Core.Path.{_≡_, refl, sym, ap, _∙_}
 use mathlib.Core.Bool.{Bool, true, false, _&&_}
-use mathlib.Core.List.{List, [], _∷_}
+use mathlib.Core.List.{List}
 use Prim.Native.Nat.{ℕ, zero, suc, _+_, _-_, _≤_, _<_}
 use native.Mathlib.Omega.{arith}
-use lib.Dec.{eqb, ltb, leb}
+use lib.Dec.{ltb, leb}
 use borrow.Author.Tests.{ltb-true, leb-true}
 use lib.ListN.{take, drop}
 use Rattle.scan.specs.Zeros.{blank}
+use Rattle.scan.proofs.Blanks.{blank-take, blank-drop}
 use Rattle.slices.proofs.Truths.{and-left, and-right}
 use Rattle.protocol.specs.Scrub.{dirtyRows, some}
 use Rattle.wipe.specs.Scrub.{sizeOf, nextChunk, readStep}
@@ -17,16 +18,6 @@ use Rattle.wipe.specs.declared.scrub.Scrub.the-variants.{Read}
 use Rattle.wipe.specs.declared.scrub.Scrubbed.the-variants.{More}
 use Rattle.wiping.specs.Onward.{ledOf}
 use Rattle.wiping.specs.declared.after.Onward.the-variants.{To}
-
-blank-take : (k : ℕ) (l : List ℕ) → blank l ≡ true → blank (take k l) ≡ true
-blank-take zero l e = refl
-blank-take (suc k) [] e = refl
-blank-take (suc k) (x ∷ xs) e = rw (and-left (eqb x 0) (blank xs) e) (blank-take k xs (and-right (eqb x 0) (blank xs) e))
-
-blank-drop : (k : ℕ) (l : List ℕ) → blank l ≡ true → blank (drop k l) ≡ true
-blank-drop zero l e = e
-blank-drop (suc k) [] e = refl
-blank-drop (suc k) (x ∷ xs) e = blank-drop k xs (and-right (eqb x 0) (blank xs) e)
 
 -- zeros have no row that is not zero
 none-dirty : (k : ℕ) (l : List ℕ) → blank l ≡ true → some (dirtyRows k l) ≡ false

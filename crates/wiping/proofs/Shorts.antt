@@ -23,7 +23,6 @@ use Rattle.wipe.specs.declared.scrub.Scrubbed.the-variants.{More}
 use Rattle.stages.specs.Turns.{stageAsk, stageStep, wipeTurn, finishTurn}
 use Rattle.stages.specs.Able.{gotBy}
 use Rattle.stages.specs.declared.stage.Stage.{Stage}
-use Rattle.stages.specs.declared.stage.Turn.{Turn}
 use Rattle.stages.specs.declared.stage.Turn.the-variants.{Open}
 use Rattle.session.specs.Sound.{scrubSound, stageSound, sound}
 use Rattle.session.specs.Steps.{counted, outOf}
@@ -32,15 +31,13 @@ use Rattle.session.specs.declared.session.Session.{Session}
 use Rattle.numbers.specs.Flat.{scrubCode, scrubPlace, stageTag, stageCode, stagePlace, flatten}
 use Rattle.numbers.specs.declared.flat.Flat.{Flat}
 use Rattle.state.specs.Bytes.{bytesOf, flatOf, decodeFlat, decodeOf}
-use Rattle.state.specs.declared.decode.Decoded.{Decoded}
 use Rattle.state.specs.declared.decode.Decoded.the-variants.{State}
 use Rattle.kept.proofs.Decode.{flat-decoded}
 use Rattle.telling.specs.Step.{transferStep, padded, askStep, AskFits}
 use Rattle.telling.proofs.Frames.{ask-step, put-all, put-frame}
 use Rattle.telling.specs.Left.{Left, misfit, heardBy, settled, repliedLeft, replyLeft}
-use Rattle.telling.specs.declared.opening.Heard.{Heard}
 use Rattle.telling.specs.declared.opening.Heard.the-variants.{Goes}
-use Rattle.wiping.specs.Onward.{wipes, wipeStage, wiping, moved, noted, Onto, Fits, Move, Moves, shortLeft, Short}
+use Rattle.wiping.specs.Onward.{wipes, wipeStage, wiping, moved, noted, Fits, Move, Moves, shortLeft, Short}
 use Rattle.wiping.specs.declared.after.Onward.{Onward}
 use Rattle.wiping.specs.declared.after.Onward.the-variants as O
 use Rattle.wiping.specs.declared.short.Next.{Next}

@@ -7,11 +7,11 @@ use lib.Dec.{eqb, ltb, leb}
 use lib.ListN.{length, take}
 use borrow.Author.Tests.{eqb-true, leb-true}
 use Rattle.slices.specs.Bytes.{splice}
+use Rattle.slices.proofs.Truths.{both}
 use Rattle.scan.specs.Zeros.{blank}
 use Rattle.wipe.specs.declared.scrub.Chunk.{Chunk}
 use Rattle.wipe.specs.declared.scrub.Scrub.the-variants.{Read}
 use Rattle.session.specs.Sound.{chunkStop}
-use Rattle.session.proofs.Unders.{both}
 use Rattle.numbers.specs.From.{chunkFrom}
 use Rattle.numbers.specs.declared.flat.Flat.{Flat}
 use Rattle.state.specs.Bytes.{bytesOf, flatOf}

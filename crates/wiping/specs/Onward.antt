@@ -37,7 +37,7 @@ use Rattle.numbers.specs.Flat.{scrubCode, scrubPlace}
 use Rattle.numbers.specs.declared.flat.Code.{Code}
 use Rattle.numbers.specs.declared.flat.Place.{Place}
 use Rattle.numbers.specs.declared.flat.Flat.{Flat}
-use Rattle.state.specs.Bytes.{bytesOf, flatOf}
+use Rattle.state.specs.Bytes.{bytesOf}
 use Rattle.telling.specs.Step.{transferStep, padded}
 use Rattle.telling.specs.Left.{Left, replyLeft}
 use Rattle.wiping.specs.declared.after.Onward.{Onward}

@@ -1,11 +1,6 @@
 use borrow.Author.Needs.{needs}
 use Rattle.agreeing.proofs.nowhere.Statement.{statement}
 use Rattle.agreeing.proofs.nowhere.Tie as tie
-use Rattle.agreeing.proofs.nowhere.Reads as reads
-use Rattle.agreeing.proofs.nowhere.Lts as lts
-use Rattle.flattening.proofs.place.Reads as place-reads
-use Rattle.agreeing.proofs.same_code.Reads as same-code-reads
-use Rattle.agreeing.proofs.same_place.Reads as same-place-reads
 use mathlib.Core.Path.{refl}
 use Rattle.agreeing.proofs.Owns.{both-same}
 

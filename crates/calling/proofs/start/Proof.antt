@@ -1,21 +1,6 @@
 use borrow.Author.Needs.{needs}
 use Rattle.calling.proofs.start.Statement.{statement}
 use Rattle.calling.proofs.start.Tie as tie
-use Rattle.calling.proofs.start.Reads as reads
-use Rattle.calling.proofs.start.Lts as lts
-use Rattle.visits.proofs.begin.Reads as begin-reads
-use Rattle.visits.proofs.finish.Reads as finish-reads
-use Rattle.visits.proofs.go_live.Reads as go-live-reads
-use Rattle.bare.proofs.identify.Reads as identify-reads
-use Rattle.readying.proofs.prepare.Reads as prepare-reads
-use Rattle.ranged.proofs.read_user.Reads as read-user-reads
-use Rattle.ranged.proofs.read_whole.Reads as read-whole-reads
-use Rattle.bare.proofs.rf_off.Reads as rf-off-reads
-use Rattle.bare.proofs.rf_on.Reads as rf-on-reads
-use Rattle.bare.proofs.rf_wrote.Reads as rf-wrote-reads
-use Rattle.readying.proofs.scrub.Reads as scrub-reads
-use Rattle.bare.proofs.wait_ready.Reads as wait-ready-reads
-use Rattle.ranged.proofs.write.Reads as write-reads
 
 enum-told : tie.Need-enum-told
 enum-told c = search needs

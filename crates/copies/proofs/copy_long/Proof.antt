@@ -7,7 +7,7 @@ use lib.ListN.{length, take, drop, length-drop}
 use lib.Seq.{length-take-le}
 use denote.Ref.{now}
 use borrow.Author.Needs.{needs}
-use Rattle.slices.specs.Bytes.{Wrote, splice}
+use Rattle.slices.specs.Bytes.{Wrote}
 use Rattle.slices.proofs.Splice.{splice-none, splice-length, part-rest}
 use Rattle.copies.proofs.Copied.{copied-on, copied-all}
 use Rattle.copies.proofs.copy_long.Statement.{statement}

@@ -1,9 +1,6 @@
 use borrow.Author.Needs.{needs}
 use Rattle.counting.proofs.stage_count.Statement.{statement}
 use Rattle.counting.proofs.stage_count.Tie as tie
-use Rattle.counting.proofs.stage_count.Reads as reads
-use Rattle.counting.proofs.stage_count.Lts as lts
-use Rattle.counting.proofs.stage_row.Reads as stage-row-reads
 use mathlib.Core.Bool.{true, false}
 use Rattle.counting.proofs.Counts.{count-of}
 

@@ -1,11 +1,6 @@
 use borrow.Author.Needs.{needs}
 use Rattle.decoding.proofs.decode_flat.Statement.{statement}
 use Rattle.decoding.proofs.decode_flat.Tie as tie
-use Rattle.decoding.proofs.decode_flat.Reads as reads
-use Rattle.decoding.proofs.decode_flat.Lts as lts
-use Rattle.restoring.proofs.session_from.Reads as session-from-reads
-use Rattle.sound.proofs.sound.Reads as sound-reads
-use Rattle.owning.proofs.own.Reads as own-reads
 use Rattle.decoding.proofs.Decodes.{decode-yes, decode-no}
 
 session-from-requires : tie.Need-session-from-requires

@@ -1,13 +1,6 @@
 use borrow.Author.Needs.{needs}
 use Rattle.leaving.proofs.leave.Statement.{statement}
 use Rattle.leaving.proofs.leave.Tie as tie
-use Rattle.leaving.proofs.leave.Reads as reads
-use Rattle.leaving.proofs.leave.Lts as lts
-use Rattle.slices.proofs.copy_to.Reads as copy-to-reads
-use Rattle.state.proofs.bytes.bytes.Reads as bytes-reads
-use Rattle.framing.proofs.frame.Reads as frame-reads
-use Rattle.telling.proofs.step.ask_step.Reads as ask-step-reads
-use Rattle.scrubbing.proofs.ask.Reads as ask-reads
 use Rattle.telling.specs.Step.{AskFits}
 use mathlib.Core.Path.{subst, sym}
 use denote.Ref.{now}

@@ -1,13 +1,6 @@
 use borrow.Author.Needs.{needs}
 use Rattle.midway.proofs.scrub_own.Statement.{statement}
 use Rattle.midway.proofs.scrub_own.Tie as tie
-use Rattle.midway.proofs.scrub_own.Reads as reads
-use Rattle.midway.proofs.scrub_own.Lts as lts
-use Rattle.restoring.proofs.scrub_from.Reads as scrub-from-reads
-use Rattle.flattening.proofs.scrub_code.Reads as scrub-code-reads
-use Rattle.flattening.proofs.scrub_place.Reads as scrub-place-reads
-use Rattle.agreeing.proofs.same_code.Reads as same-code-reads
-use Rattle.agreeing.proofs.same_place.Reads as same-place-reads
 use mathlib.Core.Path.{ap, _∙_}
 use Rattle.numbers.specs.Flat.{scrubCode, scrubPlace}
 use Rattle.agreeing.proofs.Owns.{both-same}

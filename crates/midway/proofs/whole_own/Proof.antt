@@ -1,15 +1,6 @@
 use borrow.Author.Needs.{needs}
 use Rattle.midway.proofs.whole_own.Statement.{statement}
 use Rattle.midway.proofs.whole_own.Tie as tie
-use Rattle.midway.proofs.whole_own.Reads as reads
-use Rattle.midway.proofs.whole_own.Lts as lts
-use Rattle.restoring.proofs.setup_from.Reads as setup-from-reads
-use Rattle.restoring.proofs.switch_from.Reads as switch-from-reads
-use Rattle.flattening.proofs.code.Reads as code-reads
-use Rattle.flattening.proofs.setup_code.Reads as setup-code-reads
-use Rattle.flattening.proofs.switch_code.Reads as switch-code-reads
-use Rattle.agreeing.proofs.nowhere.Reads as nowhere-reads
-use Rattle.midway.proofs.scrub_own.Reads as scrub-own-reads
 use mathlib.Core.Path.{refl, ap, _∙_}
 use Rattle.numbers.specs.Flat.{setupCode, switchCode}
 use Rattle.numbers.specs.From.{setupFrom, switchFrom}

@@ -1,12 +1,6 @@
 use borrow.Author.Needs.{needs}
 use Rattle.moving.proofs.by_chunk.Statement.{statement}
 use Rattle.moving.proofs.by_chunk.Tie as tie
-use Rattle.moving.proofs.by_chunk.Reads as reads
-use Rattle.moving.proofs.by_chunk.Lts as lts
-use Rattle.restoring.proofs.chunk_from.Reads as chunk-from-reads
-use Rattle.onward.proofs.after_read.Reads as after-read-reads
-use Rattle.onward.proofs.after_reread.Reads as after-reread-reads
-use Rattle.moving.proofs.bare.Reads as bare-reads
 use denote.Ref.{now}
 use Rattle.wiping.proofs.Wipings.{read-moves, reread-moves}
 

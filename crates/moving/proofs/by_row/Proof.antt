@@ -1,12 +1,6 @@
 use borrow.Author.Needs.{needs}
 use Rattle.moving.proofs.by_row.Statement.{statement}
 use Rattle.moving.proofs.by_row.Tie as tie
-use Rattle.moving.proofs.by_row.Reads as reads
-use Rattle.moving.proofs.by_row.Lts as lts
-use Rattle.restoring.proofs.chunk_from.Reads as chunk-from-reads
-use Rattle.restoring.proofs.rows_from.Reads as rows-from-reads
-use Rattle.onward.proofs.after_poll.Reads as after-poll-reads
-use Rattle.onward.proofs.after_row.Reads as after-row-reads
 use Rattle.wiping.proofs.Wipings.{row-moves, poll-moves}
 
 chunk-from-requires : tie.Need-chunk-from-requires

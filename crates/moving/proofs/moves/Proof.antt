@@ -1,10 +1,6 @@
 use borrow.Author.Needs.{needs}
 use Rattle.moving.proofs.moves.Statement.{statement}
 use Rattle.moving.proofs.moves.Tie as tie
-use Rattle.moving.proofs.moves.Reads as reads
-use Rattle.moving.proofs.moves.Lts as lts
-use Rattle.moving.proofs.by_chunk.Reads as by-chunk-reads
-use Rattle.moving.proofs.by_row.Reads as by-row-reads
 use denote.Ref.{now}
 
 by-row-requires : tie.Need-by-row-requires

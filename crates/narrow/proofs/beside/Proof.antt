@@ -1,4 +1,3 @@
-use mathlib.Core.Path.{_≡_}
 use Rattle.narrow.proofs.beside.Statement.{statement}
 use Rattle.narrow.proofs.beside.Tie as tie
 

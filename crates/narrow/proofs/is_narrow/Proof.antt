@@ -5,7 +5,6 @@ use Prim.Native.Nat.{_+_, _-_, _≤_}
 use native.Mathlib.Nat.{add-zero, add-assoc}
 use native.Mathlib.Omega.{arith}
 use lib.ListN.{getD}
-use denote.Ref.{now}
 use borrow.Author.Tests.{not-true}
 use Rattle.slices.specs.Pick.{pick}
 use Rattle.slices.proofs.Truths.{and-left, and-right}

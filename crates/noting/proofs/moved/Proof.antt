@@ -1,10 +1,6 @@
 use borrow.Author.Needs.{needs}
 use Rattle.noting.proofs.moved.Statement.{statement}
 use Rattle.noting.proofs.moved.Tie as tie
-use Rattle.noting.proofs.moved.Reads as reads
-use Rattle.noting.proofs.moved.Lts as lts
-use Rattle.flattening.proofs.scrub_code.Reads as scrub-code-reads
-use Rattle.flattening.proofs.scrub_place.Reads as scrub-place-reads
 
 scrub-code-requires : tie.Need-scrub-code-requires
 scrub-code-requires c κs = search needs

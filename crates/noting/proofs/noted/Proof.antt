@@ -1,9 +1,6 @@
 use borrow.Author.Needs.{needs}
 use Rattle.noting.proofs.noted.Statement.{statement}
 use Rattle.noting.proofs.noted.Tie as tie
-use Rattle.noting.proofs.noted.Reads as reads
-use Rattle.noting.proofs.noted.Lts as lts
-use Rattle.noting.proofs.moved.Reads as moved-reads
 
 enum-known-o : tie.Need-enum-known-o
 enum-known-o c = search needs

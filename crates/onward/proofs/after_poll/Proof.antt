@@ -1,11 +1,6 @@
 use borrow.Author.Needs.{needs}
 use Rattle.onward.proofs.after_poll.Statement.{statement}
 use Rattle.onward.proofs.after_poll.Tie as tie
-use Rattle.onward.proofs.after_poll.Reads as reads
-use Rattle.onward.proofs.after_poll.Lts as lts
-use Rattle.sound.proofs.chunk_stop.Reads as chunk-stop-reads
-use Rattle.sound.proofs.row_sound.Reads as row-sound-reads
-use Rattle.found.proofs.next_row.Reads as next-row-reads
 use Rattle.machine.specs.declared.wait.Wait.the-variants.{Poll}
 use Rattle.wipe.specs.declared.scrub.Scrub.the-variants.{Wait}
 use Rattle.wiping.proofs.Wipings.{poll-sane, near, leads-poll}

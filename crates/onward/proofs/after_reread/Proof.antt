@@ -1,11 +1,6 @@
 use borrow.Author.Needs.{needs}
 use Rattle.onward.proofs.after_reread.Statement.{statement}
 use Rattle.onward.proofs.after_reread.Tie as tie
-use Rattle.onward.proofs.after_reread.Reads as reads
-use Rattle.onward.proofs.after_reread.Lts as lts
-use Rattle.sound.proofs.chunk_stop.Reads as chunk-stop-reads
-use Rattle.chunks.proofs.reread_step.Reads as reread-step-reads
-use Rattle.onward.proofs.led.Reads as led-reads
 use mathlib.Core.Path.{refl}
 use denote.Ref.{now}
 use Rattle.wipe.specs.declared.scrub.Scrub.the-variants.{Reread}

@@ -1,11 +1,6 @@
 use borrow.Author.Needs.{needs}
 use Rattle.onward.proofs.after_row.Statement.{statement}
 use Rattle.onward.proofs.after_row.Tie as tie
-use Rattle.onward.proofs.after_row.Reads as reads
-use Rattle.onward.proofs.after_row.Lts as lts
-use Rattle.machine.proofs.wait.Wait.new.Reads as new-reads
-use Rattle.sound.proofs.chunk_stop.Reads as chunk-stop-reads
-use Rattle.sound.proofs.row_sound.Reads as row-sound-reads
 use Rattle.wiping.proofs.Wipings.{row-sane, rows-few, leads-row}
 use native.Mathlib.Omega.{arith}
 

@@ -1,8 +1,6 @@
 use borrow.Author.Needs.{needs}
 use Rattle.onward.proofs.led.Statement.{statement}
 use Rattle.onward.proofs.led.Tie as tie
-use Rattle.onward.proofs.led.Reads as reads
-use Rattle.onward.proofs.led.Lts as lts
 
 enum-known-s : tie.Need-enum-known-s
 enum-known-s c = search needs

@@ -1,20 +1,12 @@
 use borrow.Author.Needs.{needs}
 use Rattle.owning.proofs.end_own.Statement.{statement}
 use Rattle.owning.proofs.end_own.Tie as tie
-use Rattle.owning.proofs.end_own.Reads as reads
-use Rattle.owning.proofs.end_own.Lts as lts
-use Rattle.restoring.proofs.switch_from.Reads as switch-from-reads
-use Rattle.flattening.proofs.bit.Reads as bit-reads
-use Rattle.flattening.proofs.code.Reads as code-reads
-use Rattle.flattening.proofs.switch_code.Reads as switch-code-reads
-use Rattle.agreeing.proofs.nowhere.Reads as nowhere-reads
-use Rattle.midway.proofs.scrub_own.Reads as scrub-own-reads
 use mathlib.Core.Path.{refl, ap, _∙_}
 use mathlib.Core.Bool.{_&&_}
 use Prim.Native.Nat.{ℕ}
 use lib.Dec.{eqb}
 use Rattle.numbers.specs.Flat.{bitOf, codeOf, noCode, scrubCode, scrubPlace, switchCode}
-use Rattle.numbers.specs.From.{scrubFrom, switchFrom}
+use Rattle.numbers.specs.From.{scrubFrom}
 use Rattle.state.specs.Bytes.{sameCode, samePlace}
 use Rattle.agreeing.proofs.Owns.{endAt, at-tag, by-code, end-switch, end-other}
 

@@ -1,10 +1,6 @@
 use borrow.Author.Needs.{needs}
 use Rattle.owning.proofs.idle_own.Statement.{statement}
 use Rattle.owning.proofs.idle_own.Tie as tie
-use Rattle.owning.proofs.idle_own.Reads as reads
-use Rattle.owning.proofs.idle_own.Lts as lts
-use Rattle.flattening.proofs.code.Reads as code-reads
-use Rattle.agreeing.proofs.nowhere.Reads as nowhere-reads
 use mathlib.Core.Path.{refl}
 use Rattle.numbers.specs.Flat.{noCode}
 use Rattle.agreeing.proofs.Owns.{idleAt, by-code, idle-other}

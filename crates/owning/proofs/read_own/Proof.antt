@@ -1,12 +1,6 @@
 use borrow.Author.Needs.{needs}
 use Rattle.owning.proofs.read_own.Statement.{statement}
 use Rattle.owning.proofs.read_own.Tie as tie
-use Rattle.owning.proofs.read_own.Reads as reads
-use Rattle.owning.proofs.read_own.Lts as lts
-use Rattle.flattening.proofs.code.Reads as code-reads
-use Rattle.flattening.proofs.place.Reads as place-reads
-use Rattle.agreeing.proofs.same_code.Reads as same-code-reads
-use Rattle.agreeing.proofs.same_place.Reads as same-place-reads
 use Rattle.agreeing.proofs.Owns.{both-same}
 
 code-requires : tie.Need-code-requires

@@ -1,18 +1,6 @@
 use borrow.Author.Needs.{needs}
 use Rattle.owning.proofs.start_own.Statement.{statement}
 use Rattle.owning.proofs.start_own.Tie as tie
-use Rattle.owning.proofs.start_own.Reads as reads
-use Rattle.owning.proofs.start_own.Lts as lts
-use Rattle.restoring.proofs.setup_from.Reads as setup-from-reads
-use Rattle.restoring.proofs.switch_from.Reads as switch-from-reads
-use Rattle.restoring.proofs.wait_from.Reads as wait-from-reads
-use Rattle.flattening.proofs.code.Reads as code-reads
-use Rattle.flattening.proofs.setup_code.Reads as setup-code-reads
-use Rattle.flattening.proofs.switch_code.Reads as switch-code-reads
-use Rattle.flattening.proofs.wait_code.Reads as wait-code-reads
-use Rattle.agreeing.proofs.nowhere.Reads as nowhere-reads
-use Rattle.owning.proofs.read_own.Reads as read-own-reads
-use Rattle.owning.proofs.write_own.Reads as write-own-reads
 use mathlib.Core.Path.{refl, ap, _∙_}
 use Rattle.numbers.specs.Flat.{noCode, setupCode, waitCode, switchCode}
 use Rattle.numbers.specs.From.{setupFrom, waitFrom, switchFrom}

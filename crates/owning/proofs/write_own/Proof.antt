@@ -1,13 +1,6 @@
 use borrow.Author.Needs.{needs}
 use Rattle.owning.proofs.write_own.Statement.{statement}
 use Rattle.owning.proofs.write_own.Tie as tie
-use Rattle.owning.proofs.write_own.Reads as reads
-use Rattle.owning.proofs.write_own.Lts as lts
-use Rattle.restoring.proofs.write_from.Reads as write-from-reads
-use Rattle.flattening.proofs.write_code.Reads as write-code-reads
-use Rattle.flattening.proofs.write_place.Reads as write-place-reads
-use Rattle.agreeing.proofs.same_code.Reads as same-code-reads
-use Rattle.agreeing.proofs.same_place.Reads as same-place-reads
 use mathlib.Core.Path.{ap, _∙_}
 use Rattle.numbers.specs.Flat.{writeCode, writePlace}
 use Rattle.agreeing.proofs.Owns.{both-same}

@@ -1,7 +1,5 @@
 use native.Mathlib.Omega.{arith}
 use mathlib.Core.Path.{ap, _∙_}
-use mathlib.Core.List.{List}
-use Prim.Native.Nat.{ℕ}
 use lib.ListN.{replicate}
 use borrow.Author.Needs.{needs}
 use Rattle.slices.specs.Bytes.{splice}

@@ -7,7 +7,7 @@ use lib.ListN.{length, getD}
 use denote.Ref.{now}
 use borrow.Author.Tests.{eq-eqb, ne-eqb, lt-ltb}
 use Rattle.heads.specs.Heads.{headLen}
-use Rattle.records.specs.Parse.{wholeOf, parseOf}
+use Rattle.records.specs.Parse.{parseOf}
 use Rattle.heads.proofs.Heads.{head-least}
 use Rattle.records.proofs.Records.{none, long-way}
 use native.Mathlib.Omega.{arith}

@@ -1,11 +1,6 @@
 use borrow.Author.Needs.{needs}
 use Rattle.replying.proofs.by_way.Statement.{statement}
 use Rattle.replying.proofs.by_way.Tie as tie
-use Rattle.replying.proofs.by_way.Reads as reads
-use Rattle.replying.proofs.by_way.Lts as lts
-use Rattle.replying.proofs.by_stage.Reads as by-stage-reads
-use Rattle.leaving.proofs.leave.Reads as leave-reads
-use Rattle.shortcut.proofs.next_of.Reads as next-of-reads
 use mathlib.Core.Path.{refl, sym, subst}
 use denote.Ref.{now}
 use Rattle.wiping.specs.Onward.{Short}

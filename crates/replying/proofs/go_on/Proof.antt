@@ -1,11 +1,6 @@
 use borrow.Author.Needs.{needs}
 use Rattle.replying.proofs.go_on.Statement.{statement}
 use Rattle.replying.proofs.go_on.Tie as tie
-use Rattle.replying.proofs.go_on.Reads as reads
-use Rattle.replying.proofs.go_on.Lts as lts
-use Rattle.counting.proofs.stage_count.Reads as stage-count-reads
-use Rattle.settling.proofs.settle.Reads as settle-reads
-use Rattle.steps.proofs.stage_step.Reads as stage-step-reads
 use mathlib.Core.Path.{refl, subst, sym}
 use denote.Ref.{now}
 use lib.ListN.{length}

@@ -7,7 +7,6 @@ use lib.ListN.{length}
 use Rattle.telling.specs.Step.{AskFits}
 use Rattle.telling.specs.Fit.{StageFits}
 use Rattle.stages.specs.Turns.{stageAsk}
-use Rattle.machine.specs.declared.ask.Ask.{Ask}
 use Rattle.telling.proofs.Frames.{asked}
 use Rattle.telling.proofs.Frames.{fits-part, ask-step}
 

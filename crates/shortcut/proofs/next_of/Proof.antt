@@ -1,12 +1,6 @@
 use borrow.Author.Needs.{needs}
 use Rattle.shortcut.proofs.next_of.Statement.{statement}
 use Rattle.shortcut.proofs.next_of.Tie as tie
-use Rattle.shortcut.proofs.next_of.Reads as reads
-use Rattle.shortcut.proofs.next_of.Lts as lts
-use Rattle.state.proofs.bytes.flat_of.Reads as flat-of-reads
-use Rattle.moving.proofs.moves.Reads as moves-reads
-use Rattle.noting.proofs.noted.Reads as noted-reads
-use Rattle.noting.proofs.wipes.Reads as wipes-reads
 use denote.Ref.{now}
 use lib.ListN.{length}
 use Rattle.wiping.proofs.Shorts.{moves-may, next-is}

@@ -1,12 +1,6 @@
 use borrow.Author.Needs.{needs}
 use Rattle.starting.proofs.start.Statement.{statement}
 use Rattle.starting.proofs.start.Tie as tie
-use Rattle.starting.proofs.start.Reads as reads
-use Rattle.starting.proofs.start.Lts as lts
-use Rattle.calling.proofs.start.Reads as start-reads
-use Rattle.settling.proofs.started.Reads as started-reads
-use Rattle.opening.proofs.mark_of.Reads as mark-of-reads
-use Rattle.opening.proofs.opened_at.Reads as opened-at-reads
 use mathlib.Core.Path.{ap, sym, subst, _∙_}
 use mathlib.Core.List.{List}
 use Prim.Native.Nat.{ℕ, _≤_}

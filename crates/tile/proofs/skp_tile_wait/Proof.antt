@@ -2,7 +2,7 @@ use borrow.Author.Needs.{needs}
 use Rattle.tile.proofs.skp_tile_wait.Statement.{statement}
 use Rattle.tile.proofs.skp_tile_wait.Tie as tie
 use denote.Ref.{now}
-use Prim.Native.Nat.{ℕ, _-_}
+use Prim.Native.Nat.{_-_}
 use Rattle.part.specs.declared.registers.Registers.{Registers}
 use Rattle.part.specs.Part.{withBusy}
 use Rattle.tens.specs.Tens.{tileOf}

@@ -3,7 +3,7 @@ use Rattle.tlv.proofs.block_at.Statement.{statement}
 use Rattle.tlv.proofs.block_at.Tie as tie
 use mathlib.Core.Path.{_≡_, ap, sym, _∙_}
 use borrow.Author.Tests.{eq-eqb, ne-eqb}
-use lib.ListN.{length, drop, length-drop}
+use lib.ListN.{drop, length-drop}
 use denote.Ref.{now}
 use Rattle.slices.proofs.Splice.{part-rest}
 use Rattle.tlv.specs.Blocks.{tlvLength, blockOf}

@@ -1,7 +1,6 @@
 use borrow.Author.Needs.{needs}
 use Rattle.walking.proofs.step.Statement.{statement}
 use Rattle.walking.proofs.step.Tie as tie
-use native.Mathlib.Omega.{arith}
 use borrow.Author.Tests.{le-leb, lt-leb, lt-ltb, le-ltb}
 use Rattle.slices.proofs.Truths.{never}
 use Rattle.walk.specs.Step.{stepOf}
