@@ -3,18 +3,16 @@
 // program, so a number is taken as far as it is digits; a call that is not known is answered by a question mark.
 ghost use Prim.Native.Nat.{_≤_};
 ghost use lib.ListN.{length};
-use calls::plain;
-use calls::reading;
-use lines::given::generate;
-use lines::given::given;
+use cases::given::generate;
+use cases::given::given;
+use cases::words::find;
+use cases::words::first;
+use cases::words::number;
+use cases::words::second;
 use lines::said;
 use lines::stream::fill;
 use lines::stream::flushed;
 use lines::stream::keep;
-use lines::words::find;
-use lines::words::first;
-use lines::words::number;
-use lines::words::second;
 use slices::front;
 
 // A builder's case: its buffer is the first part of `lent`, as long as the case says and filled from that number.
@@ -39,7 +37,7 @@ fn build(
 // A reader's case: the image is the first part of `text`.
 fn read(line: &[u8], out: &mut [u8], at: usize, text: &mut [u8]) -> usize {
     let n = given(second(line), text);
-    reading::read(line, out, at, front(text, n))
+    readings::read(line, out, at, front(text, n))
 }
 
 // Room for the bytes that a case gives or lends.
@@ -62,13 +60,13 @@ fn answer(
     if builder != 0 {
         return build(line, out, at, lent, kind, text, builder);
     }
-    let leaf = plain::leaf_call(name);
+    let leaf = calls::leaf_call(name);
     if leaf != 0 {
-        return plain::leaf(line, out, at, lent, leaf);
+        return calls::leaf(line, out, at, lent, leaf);
     }
-    let length = plain::length_call(name);
+    let length = calls::length_call(name);
     if length != 0 {
-        return plain::length(line, out, at, length);
+        return calls::length(line, out, at, length);
     }
     said::text(out, at, b"?")
 }

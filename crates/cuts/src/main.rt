@@ -5,15 +5,14 @@
 //   cuts short [SEED]    a part of that, in seconds
 //
 // The rest of chance comes from the seed, 1 if none is given. Progress goes to standard error, the summary to standard output.
-mod said;
 mod sessions;
 mod sweep;
 
-use crate::said::complain;
-use crate::said::summary;
 use crate::sessions::all;
-use crate::sweep::Plan;
-use lines::words::number;
+use cases::words::number;
+use reports::complain;
+use reports::summary;
+use stand::plan::Plan;
 
 fn full() -> Plan {
     Plan {

@@ -1,22 +1,8 @@
 // The sessions that are cut: the slowest full wipe, and the museum's day with a tile.
-use crate::sweep::Plan;
 use crate::sweep::Swept;
 use crate::sweep::answered;
 use crate::sweep::opened;
 use crate::sweep::sweep;
-use rig::bench::Bench;
-use rig::bench::Identity;
-use rig::bench::Memory;
-use rig::bench::Reply;
-use rig::bench::State;
-use rig::bench::Transfer;
-use rig::bench::fresh;
-use rig::chance;
-use rig::tally::Tally;
-use rig::tally::closing;
-use rig::tally::none;
-use rig::trial::left;
-use rig::turn::visit;
 use skipnadur::replies::skp_tag_new;
 use skipnadur::starts::skp_tag_begin;
 use skipnadur::starts::skp_tag_finish;
@@ -24,6 +10,20 @@ use skipnadur::starts::skp_tag_go_live;
 use skipnadur::starts::skp_tag_read_whole;
 use skipnadur::starts::skp_tag_write;
 use slices::front;
+use stand::bench::Bench;
+use stand::bench::Identity;
+use stand::bench::Memory;
+use stand::bench::Reply;
+use stand::bench::State;
+use stand::bench::Transfer;
+use stand::bench::fresh;
+use stand::bus::visit;
+use stand::chance;
+use stand::left::left;
+use stand::plan::Plan;
+use stand::tally::Tally;
+use stand::tally::closing;
+use stand::tally::none;
 
 // The calls of a session, by their place in the day: begin, a label written, live, read back, finish.
 fn first_step(

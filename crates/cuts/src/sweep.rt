@@ -1,29 +1,21 @@
 // A call taken to its answer, with a cut after its steps. The session itself goes on as if nothing had been: each cut is on a copy.
-use crate::said::progress;
+use reports::progress;
 use rig::attempt::STEPS;
-use rig::bench::Bench;
-use rig::bench::Identity;
-use rig::bench::Memory;
-use rig::bench::Reply;
-use rig::bench::State;
-use rig::bench::Transfer;
-use rig::bench::kind;
-use rig::bench::started;
-use rig::tally::Tally;
-use rig::tally::counted;
-use rig::tally::ended;
-use rig::tally::stepped;
 use rig::trial::trial;
 use rig::turn::turn;
-
-pub struct Plan {
-    // Cut after one step in so many.
-    pub every: u64,
-    // Museum sessions.
-    pub sessions: u64,
-    // How many cuts there will be; 0: they are counted only.
-    pub total: u64,
-}
+use stand::bench::Bench;
+use stand::bench::Identity;
+use stand::bench::Memory;
+use stand::bench::Reply;
+use stand::bench::State;
+use stand::bench::Transfer;
+use stand::bench::kind;
+use stand::bench::started;
+use stand::plan::Plan;
+use stand::tally::Tally;
+use stand::tally::counted;
+use stand::tally::ended;
+use stand::tally::stepped;
 
 pub struct Swept {
     pub bench: Bench,

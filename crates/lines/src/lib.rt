@@ -1,6 +1,3 @@
-// What the programs of the comparison share: a line taken apart, the bytes it gives, the line that answers it, and the two streams.
-// compare/README.md has the lines' form.
-pub mod given;
+// What the programs of the comparison say and how: the line that answers a case, and the two streams.
 pub mod said;
 pub mod stream;
-pub mod words;

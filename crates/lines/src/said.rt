@@ -1,6 +1,6 @@
 // The answer's line, piece by piece, into a lent buffer. What does not fit is left out: the line is then another than it should be,
 // and the comparison shows it.
-use crate::words::first;
+use cases::words::first;
 use slices::copy_to;
 use slices::wide;
 

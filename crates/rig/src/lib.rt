@@ -1,8 +1,5 @@
-// A session on the simulated part, a transfer at a time, and what a power cut at that moment leaves: `chance` is the generator, `bench`
-// what stands between two transfers, `turn` carries one out, `attempt` takes a call to its answer, `trial` cuts and recovers.
+// A session of the exports on the simulated part, a transfer at a time, and what a power cut at that moment leaves: `turn` carries one out,
+// `attempt` takes a call to its answer, `trial` cuts and recovers. What needs no session is in `stand`.
 pub mod attempt;
-pub mod bench;
-pub mod chance;
-pub mod tally;
 pub mod trial;
 pub mod turn;

@@ -3,23 +3,23 @@
 // state's bytes changed, and the whole transfer and reply arrays. compare/README.md has the lines' form.
 ghost use Prim.Native.Nat.{_≤_};
 ghost use lib.ListN.{length};
-use lines::given::given;
-use lines::given::least;
+use buffers::arrays;
+use buffers::arrays::Data;
+use buffers::arrays::Lent;
+use buffers::arrays::Reply;
+use buffers::arrays::State;
+use buffers::arrays::Transfer;
+use buffers::names;
+use buffers::told::report;
+use cases::given::given;
+use cases::given::least;
+use cases::words::find;
+use cases::words::first;
+use cases::words::third;
 use lines::said;
 use lines::stream::fill;
 use lines::stream::flushed;
 use lines::stream::keep;
-use lines::words::find;
-use lines::words::first;
-use lines::words::third;
-use operations::arrays;
-use operations::arrays::Data;
-use operations::arrays::Lent;
-use operations::arrays::Reply;
-use operations::arrays::State;
-use operations::arrays::Transfer;
-use operations::exports;
-use operations::names;
 use slices::front;
 
 // Lends the parts of the arrays.
@@ -39,7 +39,7 @@ fn step(
     let s = &mut state[..a];
     let t = &mut transfer[..b];
     let r = &mut reply[..d];
-    exports::step(
+    operations::step(
         line,
         call,
         s,
@@ -48,24 +48,6 @@ fn step(
         front(data, lent.data),
         front(out, lent.out),
     )
-}
-
-fn report(
-    line: &[u8],
-    said: &mut [u8],
-    at: usize,
-    step: u64,
-    dirty: u64,
-    changed: bool,
-    transfer: &[u8],
-    reply: &[u8],
-) -> usize {
-    let a = said::text(said, at, first(line));
-    let b = said::number(said, a, step as usize);
-    let d = said::number(said, b, dirty as usize);
-    let e = said::number(said, d, changed as usize);
-    let f = said::bytes(said, e, transfer);
-    said::bytes(said, f, reply)
 }
 
 // Calls an export. A reply's bytes are put into the reply array first, as a host does; for other exports the line gives none.
@@ -100,24 +82,6 @@ fn export(
     )
 }
 
-// An operation on the arrays alone: its name is the answer.
-fn prepare(
-    line: &[u8],
-    operation: usize,
-    state: &mut State,
-    transfer: &mut Transfer,
-    reply: &mut Reply,
-    data: &mut Data,
-    out: &mut Data,
-) {
-    if operation <= 4 {
-        arrays::put(line, operation, state, transfer, data, out);
-    }
-    if operation == 5 {
-        arrays::fill(state, transfer, reply, data, out);
-    }
-}
-
 // The answer to one operation, at `at`, without its line feed.
 fn answer(
     line: &[u8],
@@ -149,7 +113,7 @@ fn answer(
     if operation == 0 {
         return said::text(said, at, b"?");
     }
-    prepare(line, operation, state, transfer, reply, data, out);
+    arrays::prepare(line, operation, state, transfer, reply, data, out);
     said::text(said, at, first(line))
 }
 
