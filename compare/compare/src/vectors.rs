@@ -59,7 +59,7 @@ mod tests {
         for program in [Program::Answers, Program::Transfers] {
             let cases = fixed(program);
             let count = cases.iter().filter(|&&b| b == b'\n').count();
-            assert!((200..=600).contains(&count), "{count} cases");
+            assert!((200..=800).contains(&count), "{count} cases");
             assert!(cases.len() <= 100_000);
         }
     }

@@ -22,6 +22,11 @@ pub fn fixed(cases: &mut Cases) -> io::Result<()> {
         cases.add(format_args!("text_image 24 {area} 4d4152434831"))?;
         cases.add(format_args!("empty_image 12 {area}"))?;
     }
+    // Every builder with room, and the first area that two bytes cannot say.
+    for builder in BUILDERS {
+        let job = Job { area: 524_288, ..Job::new(builder, 1, 0) };
+        job.add(cases, job.needed())?;
+    }
     cases.add(format_args!("empty_image 10 524288"))?;
     cases.add(format_args!("empty_image 0 0"))
 }
@@ -99,7 +104,8 @@ fn not_utf8(cases: &mut Cases) -> io::Result<()> {
         cases.add(format_args!("text_image 40 8184 {text}"))?;
         cases.add(format_args!("uri_image 40 8184 255 {text}"))?;
     }
-    Ok(())
+    // Neither UTF-8 nor room.
+    cases.add(format_args!("text_image 0 8184 ff"))
 }
 
 fn type_names(cases: &mut Cases) -> io::Result<()> {

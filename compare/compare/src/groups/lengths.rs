@@ -40,6 +40,7 @@ fn fixed(cases: &mut Cases) -> io::Result<()> {
     }
     cases.add(format_args!("image_len_for {MOST} 0"))?;
     cases.add(format_args!("image_len_for {MOST} {MOST}"))?;
+    cases.add(format_args!("mime_image_len 0 {}", MOST - 18))?;
     cases.add(format_args!("mime_image_len {} {}", 1u64 << 63, 1u64 << 63))?;
     cases.add(format_args!("no_such_call 1"))
 }

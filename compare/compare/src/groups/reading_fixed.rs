@@ -21,12 +21,15 @@ pub fn fixed(cases: &mut Cases) -> io::Result<()> {
     cases.add(format_args!("read =300:1"))
 }
 
-/// Worked examples of the NFC Forum's documents: URI RTD 1.0, appendix A (a web address, a telephone number), and a text of the Text RTD.
+/// Worked examples of the NFC Forum's documents: URI RTD 1.0, appendix A (a web address, a telephone number, an address without prefix),
+/// a text of the Text RTD, and the simplest poster of the Smart Poster RTD, whose payload is a message of its own.
 fn published(cases: &mut Cases) -> io::Result<()> {
     for message in [
         &b"\xD1\x01\x08U\x01nfc.com"[..],
         b"\xD1\x01\x0DU\x05+35891234567",
+        b"\xD1\x01\x1FU\x00mms://example.com/download.wmv",
         b"\xD1\x01\x10T\x02enHello, world!",
+        b"\xD1\x02\x12Sp\xD1\x01\x0EU\x01nfc-forum.org",
     ] {
         read_blocks(cases, &[&block(MESSAGE, message)])?;
     }
@@ -35,10 +38,23 @@ fn published(cases: &mut Cases) -> io::Result<()> {
 
 /// The smallest inputs of docs/DIFFERENCES.md, 'The Rust, and so this port, and the NFC Forum documents', that stand nowhere else here.
 fn differences(cases: &mut Cases) -> io::Result<()> {
-    // Byte 2 of the container of eight bytes.
+    // Byte 2 of a container that begins with E2 is not 0: with eight bytes, and with the four that it then says.
     read(cases, b"\xE2\x40\x01\x00\x00\x00\x03\xFF\x03\x00")?;
-    // A record without the message-begin flag, of the reserved format.
-    read_blocks(cases, &[&block(MESSAGE, &record(LAST | SHORT | 7, b"", b"", b""))])?;
+    read(cases, b"\xE2\x40\x01\x00\x03\x00\xFE")?;
+    // An area of no bytes, and a block all the same.
+    read(cases, b"\xE2\x40\x00\x01\x00\x00\x00\x00\x03\x00")?;
+    // The long form of a small length.
+    read_blocks(cases, &[b"\x03\xFF\x00\x00\xFE"])?;
+    // A record without the message-begin flag, of the reserved format; one without the message-end flag; the empty format with a type name.
+    for message in [
+        record(LAST | SHORT | 7, b"", b"", b""),
+        record(SHORT, b"", b"", b""),
+        record(LAST | SHORT, b"T", b"", b""),
+    ] {
+        read_blocks(cases, &[&block(MESSAGE, &message)])?;
+    }
+    // A line feed in a URI.
+    read_blocks(cases, &[&block(MESSAGE, &record(LAST | SHORT | 1, b"U", b"", b"\x00\n"))])?;
     // A payload of exactly 255 in the long form, as some peers write it.
     let payload = vec![b'p'; 255];
     read_blocks(cases, &[&long_block(MESSAGE, &record(LAST | 2, b"a", b"", &payload))])

@@ -6,7 +6,7 @@ use crate::rng::Rng;
 use crate::session::call::{self, Call};
 use crate::session::host::{Host, ENOUGH};
 use crate::session::original::Session;
-use crate::session::part::{Part, GPO1, I2C_CFG, RF_MNGT};
+use crate::session::part::{Fault, Part, GPO1, I2C_CFG, RF_MNGT};
 use crate::session::reading::Lent;
 use crate::session::tricks::Tricks;
 use std::io;
@@ -73,25 +73,35 @@ fn failures(cases: &mut Cases) -> io::Result<()> {
     calls(cases, 0, of(&|part| part.lost = Some(2)), &[Call::Write { at: 0, len: 17, seed: 1 }])?;
     let dirty = |part: &mut Part| (part.memory[5], part.memory[20], part.lost) = (1, 1, Some(3));
     calls(cases, 32, of(&dirty), &[Call::Scrub])?;
+    // What is read back is not what was written: 26.
+    calls(
+        cases,
+        0,
+        of(&|part| part.garbled = Some(4)),
+        &[Call::Write { at: 0, len: 17, seed: 1 }],
+    )?;
     let ends = [
         Call::Write { at: 8_192, len: 1, seed: 1 },
         Call::Write { at: 8_192, len: 0, seed: 1 },
         Call::Write { at: u64::MAX, len: 1, seed: 1 },
         Call::ReadUser { at: 8_193, len: 0 },
         Call::ReadUser { at: 8_192, len: 0 },
+        Call::ReadUser { at: u64::MAX, len: 1 },
         Call::ReadWhole { len: 8_191 },
     ];
     calls(cases, 5, of(&|_| {}), &ends)
 }
 
 /// The histories of docs/DIFFERENCES.md that no other case has: the power was cut in the first setup, after I2C_CFG and before
-/// RF_MNGT; the status is read and the whole read after it refused.
+/// RF_MNGT; the status is read and the whole read after it refused; RF goes on, and no look at it is answered.
 fn differences(cases: &mut Cases) -> io::Result<()> {
     let mut half = good();
     half.system[RF_MNGT] = 0;
     calls(cases, 0, Box::new(half), &[Call::Prepare, Call::Begin])?;
     let refused = Part { status: 0x80, lost: Some(3), ..good() };
-    calls(cases, 7, Box::new(refused), &[Call::ReadWhole { len: 8_192 }, Call::RfWrote])
+    calls(cases, 7, Box::new(refused), &[Call::ReadWhole { len: 8_192 }, Call::RfWrote])?;
+    let unseen = Part { stuck: 10, fault: Fault::Look, ..good() };
+    calls(cases, 0, Box::new(unseen), &[Call::RfOn])
 }
 
 /// 31, 32 and 33; `next` and `dirty`; the tricks of a host, from a fixed seed.
@@ -102,6 +112,12 @@ fn out_of_turn(cases: &mut Cases) -> io::Result<()> {
     host.ask_again()?;
     host.refused_reply(1, &[1, 2, 3])?;
     host.dirty()?;
+    // 33 at a start, also where 26 would come next.
+    host.lend(Lent { transfer: 18, ..ENOUGH })?;
+    host.refused_start(Call::Identify)?;
+    host.lend(Lent { reply: 63, data: 1, ..ENOUGH })?;
+    host.refused_start(Call::Write { at: 8_192, len: 1, seed: 1 })?;
+    host.lend(ENOUGH)?;
     host.first_turns(&mut session, Call::Write { at: 60, len: 10, seed: 2 }, 1)?;
     host.dirty()?;
     host.ask_again()?;

@@ -19,12 +19,19 @@ const MOST_BEFORE: usize = 70;
 /// ASCII after the string: none, one, and enough for a further block.
 const AFTER: [usize; 4] = [0, 1, 8, 64];
 
-/// The examples of RFC 3629, section 7: four texts that are well-formed.
-const PUBLISHED: [&[u8]; 4] = [
+/// Published examples: RFC 3629, section 7, four texts that are well-formed; of its sections on security and on surrogates a path with
+/// an overlong dot, and a character as two surrogates; of Unicode, tables 3-8 to 3-11, ill-formed sequences before an ASCII letter.
+const PUBLISHED: [&[u8]; 10] = [
     b"\x41\xE2\x89\xA2\xCE\x91\x2E",
     b"\xED\x95\x9C\xEA\xB5\xAD\xEC\x96\xB4",
     b"\xE6\x97\xA5\xE6\x9C\xAC\xE8\xAA\x9E",
     b"\xEF\xBB\xBF\xF0\xA3\x8E\xB4",
+    b"\x2F\xC0\xAE\x2E\x2F",
+    b"\xED\xA1\x8C\xED\xBE\xB4",
+    b"\xC0\xAF\xE0\x80\xBF\xF0\x81\x82\x41",
+    b"\xED\xA0\x80\xED\xBF\xBF\xED\xAF\x41",
+    b"\xF4\x91\x92\x93\xFF\x41\x80\xBF\x42",
+    b"\xE1\x80\xE2\xF0\x91\x92\xF1\xBF\x41",
 ];
 
 fn fixed(cases: &mut Cases) -> io::Result<()> {
