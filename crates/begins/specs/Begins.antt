@@ -1,4 +1,6 @@
 -- What is written before a URI or a text that the caller writes itself.
+-- Document 01, 'Numbers a caller gets' (`begin` and its kin) and 'Bytes of an image (lib.rs)'; lib.rs, `begin`, `begin_text`.
+-- What a payload has first: NFC Forum URI RTD 1.0, section 3.2; Text RTD 1.0, section 3.2.
 --
 --   beginBytes area code n      == what stands before a URI of n bytes after its prefix, and the prefix's code
 --   beginTextBytes area n       == the same for an English text of n bytes, and what its payload has first

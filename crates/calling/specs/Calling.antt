@@ -1,4 +1,4 @@
--- Which call is meant.
+-- Which call is meant. From no public document: the code's names of the thirteen calls of tag.rs (protocol/specs/Call).
 --
 --   named c lent     == the call that the code names by c, with the bytes that are lent to it
 use Prim.Native.Nat.{ℕ}

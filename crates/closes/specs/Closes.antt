@@ -1,4 +1,5 @@
 -- How an image is closed after a payload that the caller wrote itself.
+-- Document 01, 'Numbers a caller gets' (`finish`); lib.rs, `finish`; NFC Forum Type 5 Tag, TLV blocks (FE, the terminator).
 --
 --   finishAnswer room at        == closing an image at a place: 2 where the place is not in the buffer, else the next place
 --   finishAfter out at          == FE at the place, every other byte kept; refused, every byte kept

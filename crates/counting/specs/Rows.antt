@@ -1,4 +1,5 @@
--- How many rows a reply counts.
+-- How many rows a reply counts. Source: document 01, the paragraph 'Added' of 'A session's transfers (tag.rs)'. That the stage tells it,
+-- with no trace kept, is how the code is arranged: `counts-rows` (kept/proofs/Theorems) proves it equal to what the trace counts.
 --
 --   asksRow a          == the transfer is a row write
 --   WriteRow w b, StageRow st b == whether a write, or a stage, waits on one: however many bytes were lent to the call

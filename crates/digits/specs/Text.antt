@@ -1,4 +1,4 @@
--- Numbers and bytes as text, and the words of a line. All of it is ASCII.
+-- Numbers and bytes as text, and the words of a line. All of it is ASCII. Source: document 01, end of 'Bench cards' (`listtag`).
 --
 --   decimalF f n   == the number n in decimal, by at most f digits
 --   decimal n      == the number n in decimal, with no zero in front of another digit

@@ -1,7 +1,8 @@
--- A host drives a session, and the session counts its rows as its code does.
+-- A host drives a session, and the session counts its rows as its code does. Source: document 01, the paragraph 'Added' of 'A session's
+-- transfers (tag.rs)'. `session-drives` (proofs/Theorems): so runs every call with the mark inside the part, as protocol's tree does.
 --
---   Drives lent k t ρ es end  == from the turn t, with k rows programmed so far and the replies ρ, the exchanges are es and the call ends as
---                                `end`; its report is the session's own count (`counted`)
+--   Drives lent k t ρ es end  == from the turn t, with k rows programmed so far and the replies ρ, the exchanges are es and the call ends
+--                                as `end`; its report is the session's own count (`counted`)
 use mathlib.Core.Path.{_≡_}
 use mathlib.Core.List.{List, [], _∷_}
 use Prim.Native.Nat.{ℕ, _+_}

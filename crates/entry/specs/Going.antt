@@ -1,4 +1,5 @@
--- What is known where a call goes on.
+-- What is known where a call goes on. From no public document: what the laws here hand on from an entry point's checks to its step. The
+-- buffers' lengths are those of 33 in document 01, 'Numbers a caller gets'.
 --
 --   Going s t r lent out m rows st == a state of s bytes, with buffers and data of these lengths, holds a session that calls leave, in the
 --                                     stage st with the mark at m and these rows, and takes a reply

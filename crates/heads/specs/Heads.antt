@@ -1,7 +1,8 @@
 -- The head of a record.
 -- Document 01, 'Bytes from a phone'; NFC Forum NDEF 1.0, section 3.2 (record layout), 3.2.1 to 3.2.12 (its fields).
 --
---   flag bit h                == the header h has the flag `bit`: chunk 20, last 40, short 10, id 08 (3.2.1 to 3.2.5)
+--   flag bit h                == the header h has the flag `bit`: last 40 (ME, 3.2.2), chunk 20 (CF, 3.2.3), short 10 (SR, 3.2.4), id 08
+--                                (IL, 3.2.5)
 --   headLen h                 == bytes before the type name: header, type length, payload length in one byte or four, id length if any
 --   payloadLen s, idLen s     == the lengths that the head of s says, high byte first; no id, 0
 use mathlib.Core.List.{List}

@@ -1,14 +1,14 @@
 -- A host, as the loop in include/skipnadur.h: it has the step's number, the state's bytes and its own buffers, and nothing else. It takes
 -- the step apart, does on the bus what it says, hands the reply in, and stops at an answer. Source: document 01, the paragraph 'Added' of
--- 'A session's transfers'; the loop and the helpers of include/skipnadur.h. Document 01 asks more of a host: here what it puts into reply
--- buffer and `out` is anything, and so is its answer after a delay.
+-- 'A session's transfers (tag.rs)'; the loop and the helpers of include/skipnadur.h. Document 01 asks more of a host: here what it puts
+-- into reply buffer and `out` is anything, and so is its answer after a delay.
 --
 --   kindOf s, addressOf s, sendOf s, readOf s, delayOf s == the fields of the step s, as the header's helpers take them out
 --   Bus                 == what is done on the bus: bytes sent to an address; bytes sent, then so many read; a wait
 --   onBus x             == what the transfer x is there
 --   askedBy s t         == what the step s asks for, with the transfer buffer t
---   Act, act e, acts es == what was done, whether it was acknowledged, and the bytes in the buffer that was to be read into; the same of the
---                          exchange e, of the exchanges es
+--   Act, act e, acts es == what was done, whether it was acknowledged, and the bytes in the buffer that was to be read into; the same of
+--                          the exchange e, of the exchanges es
 --   done l ack r out    == what the host does on what was left, l, where it hands in `ack`, the reply buffer r and `out`
 --   outFor c            == how many bytes `out` has in the call c
 --   Hosts lent o l es e == from what an entry point left, l, with the data `lent` and an `out` of o bytes: the host has done es so far, and

@@ -1,4 +1,5 @@
 -- Whether the image of a text or a URI is built: the checks of `judging`, in their order, for what goes in.
+-- Document 01, 'Numbers a caller gets' (2 to 5; the type name is one byte, so 1 never comes); lib.rs, `text_image`, `uri_image`.
 --
 --   textVerdict room area t        == the image of an English text, built into `room` bytes
 --   uriVerdict room area code t    == the image of a URI

@@ -5,6 +5,7 @@
 --   checks room area k p    == refusals 1 to 4 in their order, for a type name of k bytes and a payload of p
 --   encoding t              == refusal 5: the text t is UTF-8
 --   fewest n room           == refusal 2 alone, for n bytes
+--   areaFits area           == refusal 4 alone: the area is at most 524,287
 --   answer v bs             == what a build with verdict v answers, where the bytes that it writes are bs
 --   after v bs out          == what then stands in the buffer: bs in front and the rest kept, or, refused, every byte as it was
 --   builtNumber b           == document 01's number of an answer: 0, or the refusal's

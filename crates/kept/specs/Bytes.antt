@@ -1,4 +1,4 @@
--- Bytes of a state, as they are read from where it was kept.
+-- Bytes of a state, as they are read from where it was kept. From no public document: what a lent slice of bytes is by its type.
 --
 --   Bytes l   == each number of l is a byte
 use mathlib.Core.List.{List}

@@ -1,4 +1,5 @@
--- The sessions that calls leave, whatever is replied.
+-- The sessions that calls leave, whatever is replied. Source: document 01, 'Numbers a caller gets', 34: 'no state' is every byte string but
+-- the states of these sessions (docs/DECISIONS.md, 24; `kept-exactly` in proofs/Theorems).
 --
 --   Kept s           == some calls, with some replies, leave the session s: a new one, one whose call was started, one that took a reply
 --   asked a          == how many bytes the transfer a reads

@@ -1,5 +1,5 @@
 -- Blocks: what stands in a tag after its container, one after the other.
--- NFC Forum Type 5 Tag, TLV blocks (type, length, value); document 01, 'Bytes of an image'.
+-- NFC Forum Type 5 Tag, TLV blocks (type, length, value); document 01, 'Bytes of an image (lib.rs)'.
 --
 --   blockLength n   == a length in its shortest form: one byte below 255, else FF and two bytes, high byte first
 --   messageHead n   == what stands before a message of n bytes: type 03 and the length

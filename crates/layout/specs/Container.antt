@@ -1,9 +1,9 @@
 -- The capability container of a Type 5 tag.
--- NFC Forum Type 5 Tag, capability container, the form of eight bytes; document 01, 'Bytes of an image'.
+-- NFC Forum Type 5 Tag, capability container, the form of eight bytes; document 01, 'Bytes of an image (lib.rs)'.
 --
---   container area        == the eight bytes: E2 (the form for a large memory), 40 (version 1.0, read and write always), 00,
---                            01 (several blocks may be read at once), 00 00, then the area in blocks of eight bytes, rounded
---                            down, as two bytes, high byte first
+--   container area        == the eight bytes: E2 (blocks are addressed by two bytes), 40 (version 1.0, read and write always), 00 (the
+--                            container has eight bytes, and the area stands in bytes 6 and 7), 01 (several blocks may be read at once),
+--                            00 00, then the area in blocks of eight bytes, rounded down, as two bytes, high byte first
 --   containerAnswer area  == what is answered: 4 and zeros over 524,287, the last area whose blocks fit two bytes
 --   readOnly image        == the image with 43 as its access byte, byte 1 (read always, write never), if it has one
 use mathlib.Core.List.{List, [], _∷_}

@@ -1,4 +1,4 @@
--- A whole image: what a tag holds from its first byte on. Document 01, 'Bytes of an image'.
+-- A whole image: what a tag holds from its first byte on. Document 01, 'Bytes of an image (lib.rs)'.
 --
 --   imageOf area body         == container, the block with the message `body`, terminator
 --   image area r              == the image of a message that is the one record r

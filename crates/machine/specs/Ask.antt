@@ -1,4 +1,5 @@
--- The transfer that an `Ask` means.
+-- The transfer that an `Ask` means. From no public document: an `Ask` is a transfer of tag.rs in the few numbers that the code keeps of it;
+-- the transfer itself is protocol's (protocol/specs/Transfer).
 --
 --   meant lent a   == the transfer, where `lent` are the bytes that were lent to the call
 --   first got      == the first byte that was read

@@ -1,9 +1,13 @@
--- The machine of `rf_off` and `rf_on`.
+-- The machine of `rf_off` and `rf_on`. Source: tag.rs, `rf_off`, `rf_on`. Its states are from no public document: how a call is kept
+-- between two transfers. `switch-bridge` (proofs/Switches): the machine does what protocol's tree says.
 --
 --   switchNew on            == its first state: the first of ten tries
 --   switchAsk s             == the transfer that it waits on
 --   switchStep s ack v      == where the reply leads; v is the byte that was read
 --   flipped, wanted, looked == its parts: after the switch; what RF_MNGT_Dyn has to read as; after the look
+--   tryAfter on n           == after the pause of a failed try, with n tries left: the next try, or stuck
+--   tried on n yes?         == what follows a try that said yes or no, with n tries left, as a tree
+--   look on                 == the look at RF_MNGT_Dyn, as a tree
 --   resumeSwitch s          == what remains of `tries` from s. afterSwitch: the same after a step
 use Prim.Native.Nat.{ℕ, zero, suc}
 use mathlib.Core.List.{_∷_, []}

@@ -1,8 +1,10 @@
--- The machine of `wait_ready`: its steps, and the tree that remains from each state.
+-- The machine of `wait_ready`: its steps, and the tree that remains from each state. Source: tag.rs, `wait_ready`. Its states are from no
+-- public document: how a call is kept between two transfers.
 --
 --   waitNew             == its first state: the first of a hundred polls
 --   waitAsk w           == the transfer that it waits on
 --   waitStep w ack      == where the reply leads
+--   pollAfter n         == after the pause of a failed poll, with n polls left: the next poll, or busy
 --   resumeWait w        == what remains of `waitReady` from w. afterWait: the same after a step
 -- `wait-bridge` (proofs/Waits): the machine does what the tree says.
 use Prim.Native.Nat.{ℕ, zero, suc}

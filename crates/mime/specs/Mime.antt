@@ -1,4 +1,5 @@
 -- Whether a MIME image is built: the checks of `judging`, in their order, for what goes in.
+-- Document 01, 'Numbers a caller gets' (1 to 4); lib.rs, `mime_image`.
 --
 --   mimeVerdict room area kind p   == the image of a MIME payload, built into `room` bytes
 use mathlib.Core.List.{List}

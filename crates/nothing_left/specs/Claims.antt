@@ -1,5 +1,5 @@
--- The claims of demand 3, of any program. proofs/Theorems has them for the program of crate `protocol`, crate `thrown_out` for each program of
--- Slips one that fails. Source: document 01, 'Session order'.
+-- The claims of demand 3, of any program. proofs/Theorems has them for the program of crate `protocol`, crate `thrown_out` for each program
+-- of Slips one that fails. Source: document 01, 'Session order'.
 --
 --   NothingLeft t            == `begin` after any power-up, with the mark at the whole part, ends Clean
 --   CoveredOrReported t      == between two calls of a session the mark covers every non-zero byte, or a phone's write is reported

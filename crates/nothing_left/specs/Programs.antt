@@ -1,4 +1,4 @@
--- What a session runs.
+-- What a session runs. From no public document: the form that protocol's trees, which follow tag.rs, share with the wrong ones of Slips.
 --
 --   Program      == for each call and each mark what is done on the bus, and the answer
 use Rattle.protocol.specs.Mark.{Mark}

@@ -1,9 +1,12 @@
 -- A call on the part of demand 3, for a host that sends what is asked for, waits the delays, and hands back the part's own replies.
--- Source: document 01, 'A session's transfers', last paragraph, and 'The part of demand 3'.
+-- Source: document 01, 'A session's transfers (tag.rs)', last paragraph, and 'The part of demand 3'.
 --
 --   Moment, Moments     == what is chosen around one transfer: what a phone does before it, how long a cycle that it begins takes;
 --                          and such a choice for each transfer. Every choice is one, and each has its run
+--   onwards w           == the choices from the second transfer on
+--   followed r ρ        == the reply r to the first transfer, and ρ to those after it
 --   replies q p w       == what the part p replies to the transfers of q
+--   begun n p more      == p where n is 0, no transfer yet; else what `more` has for one transfer fewer
 --   partAfter n q p w   == the part after n of the transfers of q, or at its end
 --   partOf q p w        == the part at its end
 --   Outcome             == how a call ends: for its host (answer, mark, report), what passed on the bus, and the part

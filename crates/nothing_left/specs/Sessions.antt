@@ -3,6 +3,7 @@
 --   Phase                == `quiet`, or `live`: after `go_live` or `rf_on`, until the next Ok `read_whole` or `finish`
 --   calm c               == c is not one of `begin`, `go_live`, `rf_wrote`, the calls that a live session may not make
 --   allowed f c          == the call c may come in the phase f
+--   ended f a            == the phase after a `read_whole` or `finish` that answered a: `quiet` after an Ok, else f as before
 --   later f c a          == the phase after the call c answered a
 --   SessionBy t f m p    == a session of the program t has come this far: from power-up by `begin` with the mark at the whole part, then
 --                           calls in this order and phones between them. The phase is f, the mark m, the part p

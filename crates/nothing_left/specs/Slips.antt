@@ -2,6 +2,7 @@
 -- that it breaks; as `treeOf` each is refused (must-fail/). Source: document 01, 'Slips we have seen' and 'What a reader may rely on'.
 --
 --   callsBy p w r s b g f  == the thirteen calls, with the given `prepare`, `write`, `read_whole`, `scrub`, `begin`, `go_live` and `finish`
+--   closingBy wipe m off   == the end of `finish`, by the given wipe, after RF said `off`: the first refusal is the one returned
 --   wiping prep wipe       == the calls with the setup `prep` in `prepare` and `begin`, and `wipe` in `scrub`, `begin` and `finish`
 --   refusesEverything      == every call: refused (24), with no transfer
 --   wipesNothing           == the wipe says that nothing is left, with no transfer

@@ -1,10 +1,16 @@
--- A session as numbers: the layout of the state's bytes, by name.
+-- A session as numbers: the layout of the state's bytes, by name. From no public document: docs/ARCHITECTURE.md, 'The state'.
 --
 --   flatten s                 == the numbers of the session s
+--   nowFlat mark rows lent now == the same, by its mark, the rows programmed, the length of the data, and what is under way
 --   stageTag st               == 2 to 18, by the order of the stages; 1 is between two calls. No state begins with a zero byte
 --   stageCode st, stagePlace st == what its machine is at, and where
+--   codeOf phase inner which count == what a machine is at: its tag, the tag of the machine inside it, a choice, the polls or tries left
+--   noCode                    == zeros: no machine
+--   jobCode j                 == which byte a setup writes: 1 I2C_CFG, 2 RF_MNGT, 3 GPO1
 --   waitCode, openCode, storeCode, setupCode, switchCode, scrubCode, writeCode == the tags of each machine, and of a wait inside it:
 --                                1 polls, 2 pauses
+--   placeAt left at end row   == where it is, with no rows to come: what is left of the loop, the place, the end, the row
+--   noPlace                   == zeros: no place
 --   scrubPlace, writePlace, rowPlace, chunkPlace == their places
 --   bitOf b, bitsOf r         == a bool as 0 or 1; the three rows to come as bits 0 to 2
 use Prim.Native.Nat.{ℕ, _+_, _*_}

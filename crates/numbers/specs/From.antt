@@ -1,9 +1,13 @@
--- The session that numbers are.
+-- The session that numbers are. From no public document: the way back from the numbers of Flat.
 --
 --   sessionFrom f     == the session whose numbers f are; some session where they are none's (`flatten` of it is then another)
---   nowFrom tag c p   == the stage of that tag, from what its machine is at and where; startFrom, wholeFrom, endFrom: stages 2 to 7,
---                        8 to 13, 14 to 18
---   the others        == each machine, from the same
+--   nowFrom tag c p   == the stage of that tag, from what its machine is at, c, and where, p; below 2 nothing is under way
+--   startFrom, wholeFrom, endFrom == the same for the stages 2 to 7, 8 to 13, 14 to 18
+--   waitFrom c, openFrom c, storeFrom c, setupFrom c, switchFrom c == each machine, from what it is at
+--   jobFrom c         == which byte a setup writes
+--   scrubFrom c p, writeFrom c p == a wipe and a write, from what they are at and where
+--   chunkFrom p, rowsFrom p == the chunk of a wipe; the row that it programs, and which of the three after it are to be
+--   pieceFrom p, checkFrom c p == the row of a write; the chunk that it reads back
 use Prim.Native.Nat.{ℕ, _/_, _%_}
 use lib.Dec.{eqb, ltb}
 use Rattle.slices.specs.Pick.{pick}

@@ -2,9 +2,13 @@
 -- The part answers the reads that the calls make, and refuses every other.
 --
 --   lookOf dev head n               == what reading n bytes after `head` from the address `dev` asks for
+--   userLook at n                   == the same at the user address: memory, or, for one byte, a dynamic register
+--   systemLook at n                 == the same at the system address: for one byte a system register, or the identification
+--   dynamicAt at, systemAt at       == a dynamic register and a system register, by its address; Unknown where there is none
 --   known k                         == such a read is answered
 --   answered dev head n r           == it is acknowledged: no cycle runs, and it is such a read
 --   shown k n identity memory r     == the bytes that are read
+--   bit b v                         == a bit of a register: v where b holds, else 0
 --   looked k r                      == the registers after it: reading the status clears it
 --   bytesRead, registersRead        == both for a read that may be refused
 use mathlib.Core.Bool.{Bool, true, false, _&&_}

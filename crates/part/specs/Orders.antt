@@ -2,6 +2,9 @@
 -- The part takes the writes that the calls make, and refuses every other.
 --
 --   orderOf dev sent            == what the bytes `sent` to the address `dev` ask for
+--   userOrder sent              == the same at the user address: a poll where nothing is sent, one byte for RF_MNGT_Dyn, else a row
+--   systemOrder sent            == the same at the system address: the password, or one byte of a register
+--   bare sent o                 == the order o where the address is sent alone; Unknown where bytes follow it
 --   inRow at n                  == n bytes at `at` are data for one row of user memory
 --   takes o n r                 == a part with the registers r, and no cycle running, takes the order o with n bytes of data
 --   accepted dev sent r         == the write is acknowledged: no cycle runs, and the part takes it

@@ -7,7 +7,13 @@
 --   rfOn r             == RF is on: off exactly when RF_MNGT_Dyn is not zero
 --   switches r         == I2C_CFG bit 5 is set: the RF switch addresses answer
 --   free r             == no write cycle runs
---   with..             == the registers with one thing changed
+--   withRf v r         == the registers r with RF_MNGT_Dyn at v
+--   withSession b r    == with the session open, or closed
+--   withReported b r   == with a phone's write reported, or none
+--   withBusy ms r      == with `ms` milliseconds of the cycle left
+--   withCycle ms k r   == with the cycle k begun, which takes `ms` milliseconds, the longest at most
+--   withByte at v r    == with v as the system byte of the register `at`
+--   Sound k            == k is a cycle of this part: none, a row inside the memory, or a byte whose old value the register may hold
 --   ThePart p          == p is the part that document 01 describes, in any state of its dynamic registers
 use mathlib.Core.Path.{_≡_}
 use mathlib.Core.Bool.{Bool, true, false}

@@ -2,10 +2,17 @@
 --
 --   Visit                  == what a phone does between two transfers: nothing, or bytes written from a place on. Since the bytes may
 --                             be the whole memory, this is every change of user bytes
+--   reached at n r         == a phone can write n bytes at `at`: RF is on, and they lie inside the memory
+--   registersVisited at n r == the registers after a phone wrote n bytes at `at`: reported where GPO1 says so
+--   memoryVisited at bs r m == the memory m after a phone wrote the bytes bs at `at`
 --   visited v p            == the part after it. With RF off, or past the memory, a phone changes nothing
 --   Torn                   == what a cut leaves inside a cycle: bytes in the place of those of the row write that runs, as many as
 --                             there are; whether a system byte is the old one
 --   powered r              == the registers at power-up
+--   tornByte k old r       == the system bytes after a cut inside the cycle k: the one that it writes is old or new
+--   tornRow k bs m         == the memory m after such a cut: bs in the place of the bytes that it writes, as many as there are
+--   registersCut old r     == the registers after a cut, in a cycle or not, and power-up
+--   memoryCut bs r m       == the memory m after it
 --   cut l p                == the part after a cut and power-up
 use mathlib.Core.Bool.{Bool, true, false, _&&_}
 use mathlib.Core.List.{List}

@@ -1,8 +1,10 @@
--- The machine of `open_session`.
+-- The machine of `open_session`. Source: tag.rs, `open_session`. Its states are from no public document: how a call is kept between two
+-- transfers. `open-bridge` (proofs/Opens): the machine does what protocol's tree says.
 --
 --   openAsk o                            == the transfer that it waits on
 --   openStep o ack v                     == where the reply leads
 --   presented, openWaited, openLooked    == its parts: after the password, in the wait, after the look
+--   openLook                             == the look at I2C_SSO_Dyn, as a tree: the session is open, or Refused
 --   resumeOpen o                         == what remains of `openSession` from o. afterOpen: the same after a step
 use Prim.Native.Nat.{ℕ}
 use mathlib.Core.Bool.{Bool}

@@ -1,5 +1,6 @@
 -- The parts of a record in an image.
--- Document 01, 'What must change shape': a part that is not wholly inside the image is empty, never clipped.
+-- Document 01, 'What must change shape': a part is empty if outside the image. That a part is never clipped, so that one which is only
+-- partly inside is empty too, is our decision (docs/DECISIONS.md, 13).
 -- NFC Forum NDEF 1.0, section 3.2 (type, id and payload stand in this order), 3.2.6 (format 1: a well-known type).
 --
 --   partOf s at len              == the len bytes of s at `at`, if they are all there; else none

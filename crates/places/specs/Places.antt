@@ -1,4 +1,6 @@
--- The parts of a record by their places. Document 01, 'What must change shape': a part that is not wholly inside the image is none.
+-- The parts of a record by their places.
+-- Document 01, 'What must change shape': a part is empty if outside the image. That a part is never clipped, so that one which is only
+-- partly inside is none, is our decision (docs/DECISIONS.md, 13).
 --
 --   partAt s at len                  == the len bytes of s at `at`, if they are all there: their place and length
 --   kindPart, idPart, payloadPart s r == type name, id and payload of the record r in s, one after the other

@@ -1,4 +1,5 @@
--- What every run of a call keeps to.
+-- What every run of a call keeps to. Source: document 01, 'A session's transfers (tag.rs)': `scrub` makes at most 51,968 transfers, and a
+-- row write never touches two rows of 16 bytes.
 --
 --   AtMost n p    == whatever is replied, p makes at most n transfers on the bus
 --   Each P p      == whatever is replied, P holds of each transfer that p asks for

@@ -7,6 +7,7 @@
 --   firstOf off r     == `off.and(r)`: the first refusal is the one returned
 --   closing m off     == the wipe of `finish`, after RF said `off`
 --   finish m          == `finish`: RF off, a phone's write widens the mark to the whole part, the wipe always
+--   plain r           == the result r as an answer
 --   plainly p         == p, its result as an answer
 --   callOf c m        == what the call c does, with the mark at m
 use Prim.Native.Nat.{ℕ}

@@ -1,4 +1,5 @@
--- The high-water mark: what may be non-zero. Source: tag.rs, 'Residue', and the field `dirty`; document 01, 'A session's transfers'.
+-- The high-water mark: what may be non-zero.
+-- Source: tag.rs, 'Residue', and the field `dirty`; document 01, 'A session's transfers (tag.rs)'.
 --
 --   Mark               == what is known of the memory: today the end of everything that may be non-zero
 --   covers m i         == the byte at i may be non-zero

@@ -1,11 +1,13 @@
 -- What a driver does on the bus: a tree of transfers, each with what follows for every reply.
+-- Source: tag.rs, of which the rows name the Rust that they stand for; document 01, 'What must change shape' (`Bus`, `Result`, `?`).
 --
 --   Proc A            == `done`, an answer; `ask t k`, the transfer t and then what k has for its reply; `mark m p`, the mark
 --                        becomes m (`self.dirty = m`) and then p
 --   p >>= f           == p, then what f makes of its answer
 --   Res A             == `Result<A, TagError>`
+--   orElse f r        == what f makes of the value that r holds; a refusal stays one
 --   try p f           == p?, then f: a refusal ends it
---   if b then x else y
+--   if b then x else y == x where b holds, else y
 --   unless b p        == nothing where b holds, else p
 --   both p q          == p && q: q only where p says yes
 --   fine, refuse e    == Ok(()), Err(e)

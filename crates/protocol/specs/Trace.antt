@@ -1,12 +1,17 @@
 -- A run of a call: for each sequence of replies the transfers, the answer, the mark and the report.
+-- Source: document 01, the paragraph 'Added' of 'A session's transfers (tag.rs)' (rows programmed), and 'Required forms by place' (a
+-- counter, equal to the count over the trace).
 --
 --   Replies           == a reply for each transfer, for as long as the call goes on
+--   later ρ           == the replies from the second on
 --   Exchange          == a transfer with its reply
 --   trace p ρ         == the exchanges of p with the replies ρ, to the end: a call has one for every ρ, so every call ends
+--   onwards n p more  == p where n is 0, no reply yet; else what `more` has for one reply fewer
 --   rest n p ρ        == what is left of p after n of the replies
 --   answerOf p ρ      == what p answers then
 --   markOf m p ρ      == the mark then, which was m before
 --   transfers es      == how many of the exchanges are transfers on the bus; delays are not counted
+--   rowsOf e          == 1 for an acknowledged row write, else 0
 --   rowsIn es         == how many are acknowledged row writes
 --   Report            == what is said of a call beside its answer: rows programmed
 --   nothing, noted    == the report before the first exchange; and after one more

@@ -1,6 +1,7 @@
 -- What passes on the bus. Source: tag.rs, the trait `Bus`.
 --
---   write dev head payload    == START, the address `dev` for writing, head, payload, STOP. `head` is the place that is meant, as two
+--   Transfer               == one of the three that follow: a function of `Bus` with what it is given
+--   write dev head payload == START, the address `dev` for writing, head, payload, STOP. `head` is the place that is meant, as two
 --                             bytes, or nothing where the address alone is sent; the data bytes stand apart from it
 --   writeRead dev head n   == head as a write, a repeated START, then n bytes read
 --   delay ms               == nothing passes for `ms` milliseconds

@@ -1,4 +1,5 @@
 -- An image begun, its payload written by the caller, and closed, is the image of the whole builder.
+-- Document 01, 'Numbers a caller gets': it counts as finished when `finish` follows right after a payload of the announced length.
 --
 --   begins                         == the bytes that the begin call of a record writes
 --   Begun head rest out o₁ o₂ o₃   == o₁ is the buffer after the front and `head`, o₂ after `rest` was put there, o₃ closed

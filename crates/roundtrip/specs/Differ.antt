@@ -1,4 +1,5 @@
 -- Two images of one kind are the same only where their payloads are: a label cannot be taken for another.
+-- From no public document: theorems about the bytes of document 01, 'Bytes of an image (lib.rs)'.
 --
 --   fronts, rests      == lists in two pieces are equal piece by piece, where the first pieces are equally long
 --   payload-of-image   == equal images of one type have equal payloads

@@ -1,14 +1,16 @@
--- A built image reads back as exactly its record (demand 2).
+-- A built image reads back as exactly its record (demand 2). Document 01, 'Bytes of an image (lib.rs)' and 'Bytes from a phone'.
 --
 --   bodyAt r            == where the record of an image stands: after the container and the block's type and length
 --   ReadsBack img r     == reading img finds one message; walking it finds one record and the end; the record's format, last flag,
 --                          type name, id and payload are those of r
---   reads-back          == the image of every record of at most 65,535 bytes reads back
+--   record-back         == the image of every record that is allowed, has the last flag and at most 65,535 bytes reads back
+--   reads-back          == so does every built one of at most 65,535 bytes, with a format below 8 and a type name of at most 255 bytes
 --   Says img p t        == the part p of img is the bytes t
 --   Linked img l c t    == the link l of img has the code c, the prefix of c, and the bytes t for the rest
 --   text-back           == and `text` gives the text back, where it is UTF-8
---   one-record          == two records that read back from one image say the same (Same r q)
 --   uri-back            == and `uri` the code, its prefix and the rest, for the codes 0 to 35
+--   Same r q            == the records r and q have one format, one type name and one payload
+--   one-record          == two records that read back from one image are the same in these three
 use mathlib.Core.Path.{_≡_, refl, ap, ap₂, sym, _∙_}
 use mathlib.Core.Bool.{Bool, true}
 use mathlib.Core.List.{List, [], _∷_, _++_, append-assoc, append-nil}
@@ -270,7 +272,7 @@ pub uri-back : (area code : ℕ) (t : List ℕ) (b : ReadsBack (uriImage area co
     → Linked (uriImage area code t) (uriOf (uriImage area code t) (b .places)) code t
 uri-back area code t b c u = uri-said (uriImage area code t) (b .places) (b .format) code t (b .kind) (b .payload) c u
 
--- What two records that read back from one image have in common: everything that a record says.
+-- What two records that read back from one image are proved to share: format, type name and payload. Id and last flag are left out.
 pub record Same (r q : Fields) : Type 0 where
   pub format : r .format ≡ q .format
   pub kind : r .kind ≡ q .kind

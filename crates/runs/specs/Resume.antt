@@ -1,8 +1,13 @@
--- What remains of a call from each stage, as a tree.
+-- What remains of a call from each stage, as a tree. From no public document: how a call is kept between two transfers. `session-bridge`
+-- (proofs/Bridge): the rest of protocol's tree from a stage is the stage's transfer, and then the rest from where its reply leads.
 --
 --   resumeStage lent m st    == the rest of the call from st, with the mark at m and `lent` the bytes that were lent
 --   afterTurn lent r t       == the same after a step, as its host sees it, with the report r
 --   wiping p                 == a wipe and the mark that it leaves
+--   wholeRead                == the rest of `read_whole` from its read on: the mark becomes what was found
+--   wholeRest                == the same from the status on
+--   beginRest m              == the rest of `begin` after RF is off: the wipe, if the mark m is not none
+--   finishRest m off         == the rest of `finish` from the status on, after RF said `off`
 --   stuckAs stuck            == what RF said: Ok, or RfStuck
 use mathlib.Core.List.{List}
 use mathlib.Core.Bool.{Bool, true, false}

@@ -1,4 +1,5 @@
--- A host drives a session: it sends what is asked for, and gives the replies.
+-- A host drives a session: it sends what is asked for, and gives the replies. Source: document 01, 'A session's transfers (tag.rs)', last
+-- paragraph. `session-runs` (proofs/Theorems): every call runs so, whatever is replied, and as protocol's tree does.
 --
 --   Runs lent r t ρ es end   == from the turn t and the report r, with the replies ρ, the exchanges are es and the call ends as `end`
 use mathlib.Core.Path.{_≡_}

@@ -3,6 +3,7 @@
 --   blank bs        == every byte is zero
 --   alike xs bs     == the same bytes, and as many
 --   highWater bs    == the place after the last byte that is not zero, or 0 where there is none
+--   above b n       == the same of the byte b and the bytes after it, where n is that of those bytes
 --   Zeros bs i j    == the bytes from i up to j are zero
 --   Back bs i j     == i lies at j or before it, with zeros up to j
 --   Reach bs r      == r is the end of the bytes without the zeros at their end. `reach-is` (proofs/Highs): only `highWater bs` is

@@ -1,13 +1,18 @@
--- The sessions that calls leave: between two transfers, and between two calls.
+-- The sessions that calls leave: between two transfers, and between two calls. Source: document 01, 'Numbers a caller gets', 34. The tests
+-- are from no public document: `left-exactly` (kept/proofs/Theorems) proves that they hold of these sessions and of no other.
 --
 --   sound s                    == some calls, with some replies, leave the session s
---   stageSound m rows lent st  == the same for a stage, with the mark at m, `rows` rows programmed and `lent` bytes of data
+--   nowSound m rows lent now   == the same for what is under way, with the mark at m, `rows` rows programmed and `lent` bytes of data
+--   stageSound m rows lent st  == the same for a stage
 --   plain rows lent            == nothing is programmed and nothing lent: every stage but those of a write and a wipe
 --   waitSound, openSound, storeSound, setupSound == polls below the hundred
 --   switchSound s              == tries below the ten; offSound: the same for a switch that turns RF off
 --   chunkStop m p              == where the chunk p of a wipe from the mark m stops; 0 for a chunk that no such wipe has
+--   toCome bit at stop         == the row at `at` lies before `stop`, if `bit` says that it is still to be programmed
 --   rowSound stop p r          == the row is one of the chunk that ends at `stop`, and so is each row that is still to be programmed
 --   scrubSound m rows s        == no more rows are programmed than lie before the place that the wipe is at
+--   under m start len done     == the `len` bytes from `start` lie below the mark m, and fewer than `len` are done
+--   rowsTo start end           == how many rows the bytes from `start` to `end` touch
 --   pieceRows m len p          == the rows of a write of `len` bytes up to its row p, that one too; 0 where p is none of them
 --   checkRows m len c          == the rows of a write, all of them; 0 where c is not one of the chunks that are read back
 --   writeSound m len rows w    == the rows programmed are those up to the place that the write is at

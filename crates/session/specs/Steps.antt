@@ -1,4 +1,6 @@
 -- The steps of a session by value: what a call leaves, and what it counts.
+-- Source: document 01, the paragraph 'Added' of 'A session's transfers (tag.rs)', for the rows and `out`. The session is from no public
+-- document: what is kept of a call between two transfers.
 --
 --   idle m                 == the session between two calls, with the mark at m
 --   entered rows lent t    == the session after the turn t of a call with `rows` rows programmed and `lent` bytes of data

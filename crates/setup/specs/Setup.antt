@@ -1,10 +1,12 @@
--- The machine of `prepare`; its first state's transfer and test are those of `identify`.
+-- The machine of `prepare`; its first state's transfer and test are those of `identify`. Source: tag.rs, `identify`, `prepare`. Its states
+-- are from no public document: how a call is kept between two transfers. `setup-bridge` (proofs/Setups): it does what protocol's tree says.
 --
 --   jobPlace j, jobValue j                  == the register of a job, and what it is set to
 --   setupAsk s                              == the transfer that it waits on
 --   setupStep s ack got                     == where the reply leads
 --   identified, configured, judged          == after the identification, after I2C_CFG, after GPO1 was read
 --   setupOpened, setupStored                == in the opening of a session, in the writing of a byte
+--   nextJob j                               == after the byte of the job j: RF_MNGT after I2C_CFG, then GPO1 is read; GPO1 is the last
 --   resumeSetup s                           == what remains of `prepare` from s. afterSetup: the same after a step
 use Prim.Native.Nat.{ℕ}
 use mathlib.Core.List.{List}

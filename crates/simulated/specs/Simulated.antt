@@ -1,12 +1,14 @@
--- What the simulated part answers: the definition, on a lent memory of the part's size.
--- Where the memory or the identification is of another size, everything is refused and nothing changes.
+-- What the simulated part answers: the definition, on a lent memory of the part's size. Source: document 01, 'The part of demand 3' (crate
+-- `part`). Where the memory or the identification is of another size, everything is refused and nothing changes (docs/DECISIONS.md, 33).
 --
+--   sized memory, both memory identity     == the memory is of the part's size; and so is the identification
 --   refusedBy r                            == refused, with the registers as they were
 --   wrote, memoryWrote                     == a write: its answer, and the memory after it
 --   didRead, outRead                       == a read: its answer, and the buffer after it, which it fills or leaves alone
 --   phoned, memoryPhoned                   == a phone's visit
 --   poweredUp, memoryLeft                  == a cut and power-up
---   Fills l n i m, Stores o s m, Tears ..  == what is read fills n bytes; what is stored lies inside the memory
+--   Fills l n i m                          == what the look l reads fills n bytes, with an identification of i bytes and a memory of m
+--   Stores o s m                           == what the order o stores, of s bytes that are sent, lies inside a memory of m
 use mathlib.Core.Path.{_≡_}
 use mathlib.Core.Bool.{Bool, false, _&&_}
 use mathlib.Core.List.{List}

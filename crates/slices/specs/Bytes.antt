@@ -1,4 +1,4 @@
--- Bytes in a lent buffer, and numbers as bytes.
+-- Bytes in a lent buffer, and numbers as bytes. From no public document: nothing here knows of tags.
 --
 --   splice d at bs                  == the bytes d, with bs in the place of what stood at `at`
 --   Wrote before at bs after next   == a writer put bs at `at`, kept every other byte, and returns the place after them

@@ -1,4 +1,4 @@
--- A choice by a test. Definitions that compute pick their case with it.
+-- A choice by a test. Definitions that compute pick their case with it. From no public document.
 --
 --   pick b x y   == x where the test b holds, else y
 use mathlib.Core.Bool.{Bool, true, false}

@@ -1,4 +1,4 @@
--- A walk: a step is taken until it answers.
+-- A walk: a step is taken until it answers. From no public document: how a loop is written as a definition.
 --
 --   Next S R                == what a step gives: `more`, the state to go on from, or `done`, the answer
 --   onNext n k              == the answer of n, or what k makes of the state that n goes on from

@@ -1,7 +1,9 @@
 -- When a stage can take a step: what it will count on, index and read lies where it may.
+-- From no public document: what the code requires of a stage. `able` (kept/proofs/Theorems): the stage of a session that calls leave can.
 --
---   Able n o st      == the places of st lie inside the n bytes of data and the part, and `out` has the o bytes that st reads into it
---   gotBy st reply out == where the bytes stand that st reads: in `out` for the whole memory, else in the reply buffer
+--   Able n o st      == the places of st lie inside the n bytes of data and leave room to count on, and `out`, of o bytes, holds the whole
+--                       memory where st reads that
+--   gotBy st reply out == where the bytes stand that st reads: in `out` for `read_user` and the whole memory, else in the reply buffer
 use mathlib.Core.Path.{_≡_}
 use mathlib.Core.List.{List}
 use Prim.Native.Nat.{ℕ}

@@ -1,11 +1,23 @@
--- The steps of a session: where the reply to each transfer leads.
+-- The steps of a session: where the reply to each transfer leads. Source: tag.rs, the public functions of `Tag`. The stages are from no
+-- public document: how a call is kept between two transfers. `session-runs` (runs/proofs/Theorems): they do what protocol's trees say.
 --
 --   stageAsk n st               == the transfer that a stage waits on; n bytes were lent to the call
 --   stageStep lent m st ack got == where the reply leads, with the mark at m before it
---   ..Turn                      == its parts: what each machine's step means for the call that it serves
+--   wroteByte ack v, wrote ack got == whether a phone wrote, by the status that was read: yes too where the read failed
+--   identifyTurn, prepareTurn, waitTurn, writeTurn == what a machine's step means for the call that it serves: `identify`, `prepare`,
+--                                  `wait_ready`, `write`
+--   switchTurn m x              == the same for `rf_off`, `rf_on` and the end of `go_live`
+--   readTurn m ack              == after the read of `read_user`
+--   wholeTurn, wholeReadTurn    == `read_whole`: in its switch; after the whole memory was read
+--   wipeTurn m x                == in the wipe of `scrub` and of `begin`
+--   beginTurn, beginOffTurn     == `begin`: in its setup; in its switch
+--   finishOffTurn, statusTurn, finishTurn == `finish`: in its switch; after the status, where a phone's write widens the mark to the whole
+--                                  part; in its wipe
+--   firstAnswer stuck a         == what `finish` answers: RfStuck where RF was stuck, else a
 --   startOf c m                 == where the call c begins, with the mark at m: its first transfer, or over at once
 --   lentTo c                    == the bytes that are lent to it
 --   wipeStart m                 == the wipe from its first chunk, or over at once
+--   finishStart m stuck         == the same for the wipe of `finish`
 use Prim.Native.Nat.{ℕ, _+_}
 use lib.Dec.{eqb}
 use mathlib.Core.List.{List, []}

@@ -1,4 +1,4 @@
--- What a recovery left.
+-- What a recovery left. From no public document: what the program `cuts` counts after each recovery; demand 3 wants none.
 --
 --   oneIf b      == 1 for true, 0 for false
 --   leftIn bs    == how many bytes are not zero. `none-left` (proofs/Lefts): 0 only where every byte is zero

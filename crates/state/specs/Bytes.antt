@@ -1,11 +1,16 @@
 -- The state's bytes: six tags, then seven numbers of two bytes each, low byte first.
+-- The layout is from no public document: docs/ARCHITECTURE.md, 'The state'. Which bytes are no state: document 01, 'Numbers a caller
+-- gets', 34.
 --
 --   stateLength       == 20
 --   bytesOf f         == the bytes of the numbers f
 --   flatOf l          == the numbers that the bytes l are; codeIn, placeIn: two of its parts
 --   twoAt l i         == the number whose low byte is at i
 --   encode s          == the state's bytes of the session s
---   sameFlat a b      == the numbers are the same; sameCode, samePlace. sameStage st tag c p: a stage and its numbers
+--   sameFlat a b      == the numbers are the same; mark, rows and the data's length are not compared
+--   sameCode a b, samePlace a b == the same for what a machine is at, and for where
+--   sameStage st tag c p == tag, c and p are the numbers of the stage st
+--   decodeFlat f      == the session whose numbers f are; nothing where they are none's, or calls do not leave it
 --   decodeOf l        == the session that the bytes l are a state of; nothing where they are none that calls leave
 use Prim.Native.Nat.{ℕ, _+_, _*_, _/_, _%_}
 use mathlib.Core.List.{List, [], _∷_}

@@ -1,8 +1,10 @@
--- The machine of `write_system`.
+-- The machine of `write_system`. Source: tag.rs, `write_system`. Its states are from no public document: how a call is kept between two
+-- transfers. `store-bridge` (proofs/Stores): the machine does what protocol's tree says.
 --
 --   storeAsk at value s                    == the transfer that it waits on
 --   storeStep value s ack v                == where the reply leads
 --   storeSent, storeWaited, storeLooked    == its parts: after the write, in the wait, after the look
+--   storeLook at value                     == the look at the register, as a tree: it reads as the value, or NotTaken
 --   resumeStore at value s                 == what remains of `writeSystem` from s. afterStore: the same after a step
 use Prim.Native.Nat.{ℕ}
 use mathlib.Core.Bool.{Bool}

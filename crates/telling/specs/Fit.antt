@@ -1,4 +1,5 @@
--- When a step's transfer fits the buffers.
+-- When a step's transfer fits the buffers. From no public document: what the code requires of a step that it settles. The 19 and 64 bytes
+-- are those of document 01, 'Numbers a caller gets', 33.
 --
 --   StageFits n st  == st can ask (`Able`), and what it asks for fits (`AskFits`), with n bytes of data, no more than the part has
 --   TurnFits n t    == the same where the call goes on

@@ -1,4 +1,4 @@
--- What an entry point leaves. Source: document 01, 'Session checks' and the paragraph 'Added' of 'A session's transfers'.
+-- What an entry point leaves. Source: document 01, 'Session checks' and the paragraph 'Added' of 'A session's transfers (tag.rs)'.
 --
 --   Left                        == the step that is returned, and the state, transfer and reply buffers afterwards
 --   Leaves l given s t r        == an entry point returned the step `given` and left s, t and r: all as l says
@@ -7,16 +7,21 @@
 --                                  the bytes to send stand in the transfer buffer, zeros after them up to 19; at the answer the first 19
 --                                  and 64 bytes are zero. Bytes past these never change
 --   intoOut st                  == the bytes that st reads go into `out`
+--   short t r                   == a transfer buffer of t bytes is under 19, or a reply buffer of r under 64
 --   openedOf s t r              == whether a call may be started on the state s, with a transfer buffer of t bytes and a reply buffer of r:
 --                                  34, 32, 33 (under 19, under 64)
+--   openedBy, openedNow         == the same, on what was decoded; on its mark and what is under way
+--   markOf o                    == the mark of a session on which a call may be started; none where it is refused
+--   misfit q st t r lent out    == a lent length is wrong for the stage st of the session q: transfer or reply buffer, data, `out`
 --   heardOf s t r lent out      == whether the state s takes a reply with these buffers: 34, 31, 33
+--   heardBy, heardNow           == the same, on what was decoded; on its session and what is under way
 --   waitsOn lent st             == the transfer that st waits on; framed: its bytes over the first 19 of the transfer buffer
 --   startLeft c s t r           == the call c started on the state s: 34, 32, 33, or its first transfer, or its answer
 --   replyLeft s t r lent out ack == a reply given: 34, 31, 33, or the next transfer, or the answer
 --   nextLeft s t r lent out     == the open call's transfer once more: 34, 31, 33, or the transfer, nothing else changed
 --   startedLeft, repliedLeft, repeatedLeft == the same three, on what was found open or heard
 --   newState s n, newStep s     == a session made in s: 34 for a wrong length alone
---   dirtyStep s                 == the mark of the session in s, or 34
+--   dirtyStep s                 == the mark of the session in s, or 34. dirtyDecoded: the same, on what was decoded
 use mathlib.Core.Path.{_≡_}
 use Prim.Native.Nat.{ℕ, _+_}
 use mathlib.Core.Bool.{Bool, true, false, not, _||_}

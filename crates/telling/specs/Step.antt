@@ -1,5 +1,6 @@
 -- The 64-bit step that an entry point returns. Source: docs/ARCHITECTURE.md, 'The step'; include/skipnadur.h.
 --
+--   transferLength, replyLength == 19 and 64: a transfer buffer and a reply buffer have so many bytes at least, and only those are written
 --   stepOf kind a b c        == bits 0 to 7 the kind, 8 to 15 a, 16 to 31 b, 32 to 63 c
 --   answerStep n rows v      == kind 0: the number, the rows programmed, the value
 --   transferStep out t       == kind 1, a write: address, bytes to send; kind 2, a read into the reply buffer, or 3, into `out`:

@@ -1,7 +1,8 @@
 -- The registers of the simulated part as ten numbers. Any ten numbers are a part's registers, so that nothing a caller lends is
 -- refused: bytes are taken modulo 256, a flag is on where its number is not 0, and a cycle of another kind than 1 and 2 is none.
+-- Source: include/skipnadur_tile.h, `skp_tile`.
 --
---   flag n                 == the number n as a flag; of false and true as a number: numberOf
+--   flag n                 == the number n as a flag. numberOf b: the flag b as a number
 --   cycleOf kind at n      == the running cycle: 1 a row write of n bytes at `at`, 2 a system byte at `at` that held n, else nothing
 --   kindOf, placeOf, sizeOf == a cycle's three numbers
 --   registersOf t          == the registers that ten numbers are

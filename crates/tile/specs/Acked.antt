@@ -1,4 +1,4 @@
--- The simulated part for C: its answer as a number.
+-- The simulated part for C: its answer as a number. Source: include/skipnadur_tile.h.
 --
 --   acked a                == an answer's number: 1 acknowledged, 0 refused
 use Prim.Native.Nat.{ℕ}

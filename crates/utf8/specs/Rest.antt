@@ -1,4 +1,4 @@
--- The later bytes of a character.
+-- The later bytes of a character. Source: Unicode, table 3-7: from the third byte on each is one of 80..BF.
 --
 --   rest n lo hi   == the ranges of the later bytes of a character of n bytes, whose second byte is one of lo..hi
 use mathlib.Core.List.{List, _∷_}

@@ -1,4 +1,5 @@
--- What the check of a text passes over.
+-- What the check of a text passes over. From no public document: how the code passes many characters at once; what is well-formed is table
+-- 3-7's (Utf8).
 --
 --   Skips s i j   == between i and j nothing decides: the text from i is well-formed as the text from j is
 use mathlib.Core.Path.{_≡_}

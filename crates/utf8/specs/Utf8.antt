@@ -1,7 +1,8 @@
 -- Well-formed UTF-8, as the document has it: The Unicode Standard, section 3.9, definition D92, and
 -- table 3-7, "Well-Formed UTF-8 Byte Sequences".
 --
---   lo to hi        == a range: the bytes from lo to hi, both among them
+--   Range           == a range of bytes
+--   lo to hi        == the range of the bytes from lo to hi, both among them
 --   inside b range  == the byte b is one of the range
 --   table           == table 3-7: a row is the ranges of a character's bytes, in their order
 --   fits s row      == the bytes at the front of s are there and stand each in its range of the row

@@ -1,12 +1,17 @@
--- The machine of the wipe.
+-- The machine of the wipe. Source: tag.rs, `scrub_to`. Its states are from no public document: how a call is kept between two transfers.
+-- `scrub-bridge` (proofs/Scrubs): the machine does what protocol's tree says.
 --
 --   sizeOf at end            == how many bytes the chunk at `at` has, of a wipe that ends at `end`
+--   chunkFrom left at end    == the chunk at `at`, with `left` chunks left from it on; done where there is none
 --   scrubNew end             == where a wipe to `end` begins: its first chunk, or done where there is none
 --   scrubAsk s               == the transfer that it waits on
 --   scrubStep s ack got      == where the reply leads
 --   readStep, rowStep, waitedStep, rereadStep == its parts: after the read of a chunk, after a row, in the wait, after the second read
 --   afterRead, nextRow, nextChunk == where to go on: after the rows that are not zero are known, after a row, after a chunk
+--   bits r                   == which of the three rows after the one that is programmed are to be too
 --   Near s                   == the places of s leave room to count on
+--   onward p                 == the chunks after p, as a tree
+--   rowsThen p m             == the rows m of the chunk p, then its second read and the chunks after it, as a tree
 --   resumeScrub s            == what remains of `scrubTo` from s. afterScrub: the same after a step
 use Prim.Native.Nat.{ℕ, zero, suc, _+_, _-_, _<_, min}
 use mathlib.Core.List.{List, [], _∷_}

@@ -1,4 +1,5 @@
--- A wipe's acknowledged step, on the numbers of its state.
+-- A wipe's acknowledged step, on the numbers of its state. From no public document: the short way of docs/DECISIONS.md, 45. `Short` says
+-- that it leaves what a reply leaves (telling/specs/Left).
 --
 --   wipes tag which         == the stage of this tag wipes, and its choice is one that it has: 12, or 18 (whether RF was stuck)
 --   wipeStage tag which s   == that stage, its wipe at s
@@ -11,6 +12,7 @@
 --                              when a transfer is acknowledged, with `got` in the reply buffer. Leads: the same of an `Onward`;
 --                              AnyLeads: whatever stands in the reply buffer
 --   Fits f s                == f are the numbers of a stage that wipes, with its wipe at s
+--   Move f got n next       == f are the numbers of a wipe that goes on to `next` with n rows, as `Onto` says
 --   Moves f got o           == a state with the numbers f goes on to o. AnyMoves: whatever stands in the reply buffer
 --   shortLeft f s t r       == what a step leaves whose state has the numbers f, and that waits on the transfer of s
 --   Short l t r lent out ack n == a reply leaves what n says

@@ -1,4 +1,5 @@
--- A wipe's read of a clean chunk, on the bytes of its state. On a clean tile nearly every step is one.
+-- A wipe's read of a clean chunk, on the bytes of its state. On a clean tile nearly every step is one. From no public document: the way of
+-- docs/DECISIONS.md, 50. `Clean` says that it leaves what a reply leaves (telling/specs/Left).
 --
 --   Passes m rows p got x == where x is a chunk: a wipe that reads the chunk p goes on to read x, as `Onto` says
 --   chunkBytes p          == four bytes of the state: the chunks left after p, and where p is

@@ -1,14 +1,19 @@
--- The machine of `write`, after the mark has moved.
+-- The machine of `write`, after the mark has moved. Source: tag.rs, `write`, `program`. Its states are from no public document: how a call
+-- is kept between two transfers. `write-bridge` (proofs/Writes): the machine does what protocol's tree says.
 --
 --   pieceOf p n              == how many bytes the row has that is programmed, of n bytes in all
 --   chunkOf done n           == how many bytes the chunk has that is read back after `done` of n
+--   checkFrom left start done same == `left` chunks to be read back from `done` on, alike so far or not: the first, or the answer
 --   checkNew start n         == where the read back of n bytes begins: its first chunk, or done where there is none
+--   pieceFrom left start done n == `left` rows to be programmed from `done` on: the first, or the read back
 --   writeNew start n         == where the writing of n bytes begins
 --   writeAsk n w             == the transfer that it waits on
 --   writeStep w ack got lent == where the reply leads; `lent` are the bytes that are written
 --   pieceStep, pieceWaited, checkStep == its parts: after a row, in the wait, after a chunk was read back
 --   nextPiece, comparedTo    == where to go on: after a row, after a comparison
 --   Inside n w               == the places of w lie inside the n bytes
+--   backOf lent start        == the read back of all that was written, as a tree
+--   rowsOn lent p            == the rows after p, as a tree
 --   resumeWrite lent w       == what remains of `write` from w. afterWrite: the same after a step
 use Prim.Native.Nat.{ℕ, zero, suc, _+_, _-_, _<_, _≤_, min}
 use mathlib.Core.List.{List}
