@@ -8,13 +8,15 @@ static int count;
 static char **words;
 
 /* glibc hands the words to every constructor. */
-__attribute__((constructor)) static void keep(int argc, char **argv) {
+__attribute__((constructor)) static void keep(int argc, char **argv)
+{
     count = argc;
     words = argv;
 }
 
 /* The length of word i, which then stands at the front of the buffer; -1: there is no such word; -2: only its first bytes fit. */
-intptr_t rattle_arg(uintptr_t i, uint8_t *buffer, uintptr_t room) {
+intptr_t rattle_arg(uintptr_t i, uint8_t *buffer, uintptr_t room)
+{
     size_t length;
     if (i >= (uintptr_t)count) return -1;
     length = strlen(words[i]);
@@ -22,6 +24,4 @@ intptr_t rattle_arg(uintptr_t i, uint8_t *buffer, uintptr_t room) {
     return length <= room ? (intptr_t)length : -2;
 }
 
-void rattle_set_errno(int32_t number) {
-    errno = number;
-}
+void rattle_set_errno(int32_t number) { errno = number; }
