@@ -1,4 +1,4 @@
-// The bytes of a transfer, as they stand in the transfer buffer: what is sent, and zeros up to 19.
+// The bytes of a transfer, as they stand in the transfer buffer: what is sent, and zeros up to 19; and whether the buffers are long enough.
 ghost use mathlib.Core.Path.{_≡_};
 ghost use mathlib.Core.List.{_∷_, _++_};
 ghost use Prim.Native.Nat.{_/_, _%_, _≤_};
@@ -6,8 +6,16 @@ ghost use lib.ListN.{length, replicate};
 ghost use Rattle.protocol.specs.Transfer.{place, sent};
 ghost use Rattle.machine.specs.Ask.{meant};
 ghost use Rattle.telling.specs.Step.{padded, AskFits};
+ghost use Rattle.telling.specs.Left.{short};
 use machine::ask::Ask;
 use slices::copy_to;
+
+// The transfer or the reply buffer is too short.
+pub fn short(transfer: usize, reply: usize) -> bool
+    ensures { λ r. ⌜ r ≡ short transfer reply ⌝ }
+{
+    (transfer < 19) | (reply < 64)
+}
 
 // A place as two bytes, one byte after it.
 fn head(at: usize, value: u8) -> [u8; 19]

@@ -3,7 +3,7 @@ ghost use mathlib.Core.Path.{_≡_};
 ghost use Rattle.telling.specs.Left.{misfit, heardNow, heardBy};
 ghost use Rattle.state.specs.Bytes.{decodeOf};
 use decoding::decode;
-use opening::short;
+use framing::short;
 use results::out_of;
 use session::session::Now;
 use session::session::Session;

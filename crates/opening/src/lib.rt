@@ -1,17 +1,11 @@
 // Whether a call may be started: document 01's checks in their order.
 ghost use mathlib.Core.Path.{_≡_};
-ghost use Rattle.telling.specs.Left.{short, openedNow, openedBy, openedOf, markOf};
+ghost use Rattle.telling.specs.Left.{openedNow, openedBy, openedOf, markOf};
 use decoding::decode;
+use framing::short;
 use session::session::Now;
 use state::decode::Decoded;
 use telling::opening::Opened;
-
-// The transfer or the reply buffer is too short.
-pub fn short(transfer: usize, reply: usize) -> bool
-    ensures { λ r. ⌜ r ≡ short transfer reply ⌝ }
-{
-    (transfer < 19) | (reply < 64)
-}
 
 fn opened_now(m: usize, now: Now, transfer: usize, reply: usize) -> Opened
     ensures { λ r. ⌜ r ≡ openedNow m now transfer reply ⌝ }
