@@ -34,10 +34,9 @@ fuzz:
 compare:
 	@tools/compare run $(if $(N),--cases $(N)) $(if $(S),--seed $(S)) $(if $(GROUPS),--groups $(GROUPS))
 
-# The fixed lists of the Rust's answers, which the gate replays with no Rust at hand.
+# The fixed list of the Rust's answers, which the gate replays with no Rust at hand.
 vectors:
 	@tools/compare vectors crates/answers
-	@tools/compare vectors crates/transfers --groups session
 
 fmt:
 	@rt fmt

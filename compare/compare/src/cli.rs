@@ -1,7 +1,6 @@
 //! The command line: `run`, `vectors` and `answer`.
 
 use crate::args::{usage, Failure, Given};
-use crate::groups::{Group, Program};
 use crate::{oracle, run, vectors};
 use std::ffi::OsString;
 use std::io::{self, BufRead, BufWriter, Write};
@@ -11,8 +10,8 @@ use std::path::PathBuf;
 const CASES: u64 = 3_000_000;
 const SEED: u64 = 1;
 
-const USAGE: &str = "use `compare run --answers PROGRAM --transfers PROGRAM --dir DIR [--cases N] \
-    [--seed S] [--groups a,b]`, `compare vectors DIR [--groups a,b]` or `compare answer`";
+const USAGE: &str = "use `compare run --answers PROGRAM --dir DIR [--cases N] [--seed S] \
+    [--groups a,b]`, `compare vectors DIR [--groups a,b]` or `compare answer`";
 
 /// 0: all agree; 1: differences; 2: bad usage; 3: a file or the port failed.
 pub fn main(args: impl Iterator<Item = OsString>) -> u8 {
@@ -41,7 +40,7 @@ fn perform(args: &[String]) -> Result<bool, Failure> {
         "vectors" => {
             let given = Given::read(rest, 1)?;
             given.only(&["--groups"])?;
-            let count = vectors::write(&PathBuf::from(given.plain[0]), &vectors_of(&given)?)?;
+            let count = vectors::write(&PathBuf::from(given.plain[0]), &given.groups()?)?;
             eprintln!("compare: {count} cases written");
             Ok(true)
         }
@@ -54,35 +53,19 @@ fn perform(args: &[String]) -> Result<bool, Failure> {
     }
 }
 
-/// The groups of `answers` where none are named; never those of two programs.
-fn vectors_of(given: &Given) -> Result<Vec<&'static Group>, Failure> {
-    let mut groups = given.groups()?;
-    if given.option("--groups").is_none() {
-        groups.retain(|group| group.program == Program::Answers);
-    }
-    if groups.windows(2).any(|two| two[0].program != two[1].program) {
-        return Err(usage("a list of cases is for one program"));
-    }
-    Ok(groups)
-}
-
 fn run_options(given: Given) -> Result<run::Options, Failure> {
-    given.only(&["--answers", "--transfers", "--dir", "--cases", "--seed", "--groups"])?;
-    let path = |name| given.option(name).map(PathBuf::from);
-    let options = run::Options {
-        answers: path("--answers"),
-        transfers: path("--transfers"),
-        dir: path("--dir").ok_or_else(|| usage("--dir is missing"))?,
+    given.only(&["--answers", "--dir", "--cases", "--seed", "--groups"])?;
+    let path = |name| match given.option(name) {
+        Some(path) => Ok(PathBuf::from(path)),
+        None => Err(usage(&format!("{name} is missing"))),
+    };
+    Ok(run::Options {
+        answers: path("--answers")?,
+        dir: path("--dir")?,
         cases: given.number("--cases", CASES)?,
         seed: given.number("--seed", SEED)?,
         groups: given.groups()?,
-    };
-    for group in &options.groups {
-        if options.program(group.program).is_none() {
-            return Err(usage(&format!("{} is missing", group.program.option())));
-        }
-    }
-    Ok(options)
+    })
 }
 
 /// The answers to the cases on standard input, on standard output.

@@ -1,7 +1,7 @@
 //! A run: per group the cases, the port's answers, the comparison.
 
 use crate::differ::{self, Difference};
-use crate::groups::{Cases, Group, Program};
+use crate::groups::{Cases, Group};
 use crate::port;
 use crate::progress::Progress;
 use crate::rights::{Computed, Written};
@@ -12,22 +12,12 @@ use std::path::{Path, PathBuf};
 use std::time::Instant;
 
 pub struct Options {
-    /// The port's programs; one that no group needs may be missing.
-    pub answers: Option<PathBuf>,
-    pub transfers: Option<PathBuf>,
+    /// The port's program.
+    pub answers: PathBuf,
     pub dir: PathBuf,
     pub cases: u64,
     pub seed: u64,
     pub groups: Vec<&'static Group>,
-}
-
-impl Options {
-    pub fn program(&self, of: Program) -> Option<&Path> {
-        match of {
-            Program::Answers => self.answers.as_deref(),
-            Program::Transfers => self.transfers.as_deref(),
-        }
-    }
 }
 
 const BUFFER: usize = 1 << 20;
@@ -54,13 +44,13 @@ fn run_group(group: &Group, options: &Options, progress: &mut Progress) -> io::R
     progress.writing(group.name);
     let count = write_cases(group, options, &cases, &right)?;
     progress.written(count);
-    let program = options.program(group.program).expect("the options name it");
-    let status =
-        port::answer(program, &cases, &answers, progress).map_err(|why| named(program, why))?;
+    let status = port::answer(&options.answers, &cases, &answers, progress)
+        .map_err(|why| named(&options.answers, why))?;
     let (asked, told) = (open(&cases)?, open(&answers)?);
-    let mut tally = match group.program {
-        Program::Answers => differ::compare(asked, told, Computed, progress)?,
-        Program::Transfers => differ::compare(asked, told, Written::new(open(&right)?), progress)?,
+    let mut tally = if group.written {
+        differ::compare(asked, told, Written::new(open(&right)?), progress)?
+    } else {
+        differ::compare(asked, told, Computed, progress)?
     };
     if !status.success() {
         tally.differences += 1;
@@ -72,10 +62,7 @@ fn run_group(group: &Group, options: &Options, progress: &mut Progress) -> io::R
 /// The cases, and the right answers beside them where these build on each other.
 fn write_cases(group: &Group, options: &Options, path: &Path, right: &Path) -> io::Result<u64> {
     let mut file = create(path)?;
-    let mut answers = match group.program {
-        Program::Answers => None,
-        Program::Transfers => Some(create(right)?),
-    };
+    let mut answers = if group.written { Some(create(right)?) } else { None };
     let mut cases = match &mut answers {
         None => Cases::new(&mut file),
         Some(answers) => Cases::with_answers(&mut file, answers),

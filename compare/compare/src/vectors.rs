@@ -1,25 +1,25 @@
 //! The fixed list with its answers, as two files: `stdin` and `stdout`.
 
-use crate::groups::{Cases, Group, Program};
+use crate::groups::{Cases, Group};
 use crate::rights::{Computed, Rights, Written};
 use std::fs;
 use std::io;
 use std::path::Path;
 
-/// All groups are of one program.
 pub fn write(dir: &Path, groups: &[&Group]) -> io::Result<u64> {
-    let (mut stdin, mut right) = (Vec::new(), Vec::new());
-    let mut cases = Cases::with_answers(&mut stdin, &mut right);
+    let (mut stdin, mut stdout, mut count) = (Vec::new(), String::new(), 0);
     for group in groups {
+        let (mut lines, mut right) = (Vec::new(), Vec::new());
+        let mut cases = Cases::with_answers(&mut lines, &mut right);
         (group.fixed)(&mut cases)?;
+        count += cases.count();
+        stdout += &if group.written {
+            answers(&lines, Written::new(&right[..]))?
+        } else {
+            answers(&lines, Computed)?
+        };
+        stdin.extend(lines);
     }
-    let count = cases.count();
-    let stdout = match groups.first() {
-        Some(Group { program: Program::Transfers, .. }) => {
-            answers(&stdin, Written::new(&right[..]))?
-        }
-        _ => answers(&stdin, Computed)?,
-    };
     fs::create_dir_all(dir)?;
     fs::write(dir.join("stdout"), stdout)?;
     fs::write(dir.join("stdin"), stdin)?;
@@ -45,10 +45,10 @@ mod tests {
     use crate::groups::GROUPS;
     use crate::{bytes, original, reading};
 
-    fn fixed(program: Program) -> Vec<u8> {
+    fn fixed(written: bool) -> Vec<u8> {
         let mut lines = Vec::new();
         let mut cases = Cases::new(&mut lines);
-        for group in GROUPS.iter().filter(|group| group.program == program) {
+        for group in GROUPS.iter().filter(|group| group.written == written) {
             (group.fixed)(&mut cases).unwrap();
         }
         lines
@@ -56,8 +56,8 @@ mod tests {
 
     #[test]
     fn the_lists_are_short() {
-        for program in [Program::Answers, Program::Transfers] {
-            let cases = fixed(program);
+        for written in [false, true] {
+            let cases = fixed(written);
             let count = cases.iter().filter(|&&b| b == b'\n').count();
             assert!((200..=800).contains(&count), "{count} cases");
             assert!(cases.len() <= 100_000);
@@ -67,7 +67,7 @@ mod tests {
     /// Where the original answers, document 01's words give the same refusal.
     #[test]
     fn document_and_original_refuse_alike() {
-        for line in fixed(Program::Answers).split(|&b| b == b'\n') {
+        for line in fixed(false).split(|&b| b == b'\n') {
             let Some(case) = parse(line) else { continue };
             if let (Case::Build(build), Who::Original) = (&case, who(&case)) {
                 let outcome = original::build(&mut bytes::lent(build.room), build);

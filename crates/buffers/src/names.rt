@@ -1,4 +1,6 @@
 // Which operation a line's first word means, as a number; 0 for none.
+use cases::words::after;
+use cases::words::before;
 
 // Operations on the arrays alone.
 pub fn on_arrays(name: &[u8]) -> usize {
@@ -90,16 +92,24 @@ fn others(name: &[u8]) -> usize {
     0
 }
 
-// Exports: 1 to 10 take state, transfer and reply, 11 to 13 data or `out` too; 14 to 17 are `next`, `reply`, `new` and `dirty`.
-pub fn export(name: &[u8]) -> usize {
-    let other = others(name);
+fn tag_call(call: &[u8]) -> usize {
+    let other = others(call);
     if other != 0 {
         return other;
     }
-    let lent = lent_calls(name);
+    let lent = lent_calls(call);
     if lent != 0 {
         return lent;
     }
-    let first = first_calls(name);
-    if first != 0 { first } else { later_calls(name) }
+    let first = first_calls(call);
+    if first != 0 { first } else { later_calls(call) }
+}
+
+// Exports, by their names without `skp_`: 1 to 10 take state, transfer and reply, 11 to 13 data or `out` too; 14 to 17 are `tag_next`,
+// `tag_reply`, `tag_new` and `tag_dirty`.
+pub fn export(name: &[u8]) -> usize {
+    if check::same(before(name, b'_'), b"tag") {
+        return tag_call(after(name, b'_'));
+    }
+    0
 }

@@ -2,13 +2,13 @@
 
 use super::builder_line::{Job, BUILDERS};
 use super::table_3_7::ILL_FORMED;
-use super::{builders_fixed, builders_random, Cases, Group, Program};
+use super::{builders_fixed, builders_random, Cases, Group};
 use crate::bytes::Hex;
 use std::io;
 
 pub const GROUP: Group = Group {
     name: "builders",
-    program: Program::Answers,
+    written: false,
     fixed: builders_fixed::fixed,
     sweep,
     random: builders_random::random,

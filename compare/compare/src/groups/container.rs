@@ -1,12 +1,12 @@
 //! The container for every area it can tell, and the read-only mark.
 
-use super::{Cases, Group, Program};
+use super::{Cases, Group};
 use crate::bytes::{generated, Hex};
 use crate::rng::Rng;
 use std::io;
 
 pub const GROUP: Group =
-    Group { name: "container", program: Program::Answers, fixed, sweep, random, share: 500 };
+    Group { name: "container", written: false, fixed, sweep, random, share: 500 };
 
 /// Document 01: refusal 4 is an area over 524,287.
 const LARGEST_AREA: u64 = 524_287;

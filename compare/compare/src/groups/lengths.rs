@@ -1,13 +1,13 @@
 //! Lengths: where the record's and the block's form changes (255, 256), around
 //! the longest record (65,535) and around the end of 64 bits.
 
-use super::{Cases, Group, Program};
+use super::{Cases, Group};
 use crate::rng::Rng;
 use std::io;
 use std::ops::RangeInclusive;
 
 pub const GROUP: Group =
-    Group { name: "lengths", program: Program::Answers, fixed, sweep, random, share: 1_000 };
+    Group { name: "lengths", written: false, fixed, sweep, random, share: 1_000 };
 
 const MOST: u64 = u64::MAX;
 

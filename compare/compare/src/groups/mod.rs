@@ -28,26 +28,11 @@ use crate::rng::Rng;
 pub use cases::Cases;
 use std::io;
 
-/// The port's program that takes a group's lines.
-#[derive(Copy, Clone, PartialEq, Eq, Debug)]
-pub enum Program {
-    Answers,
-    Transfers,
-}
-
-impl Program {
-    /// The option that names it.
-    pub fn option(self) -> &'static str {
-        match self {
-            Program::Answers => "--answers",
-            Program::Transfers => "--transfers",
-        }
-    }
-}
-
 pub struct Group {
     pub name: &'static str,
-    pub program: Program,
+    /// Whether its right answers are written beside the cases, because a line
+    /// builds on those before it; else each is asked of the oracle.
+    pub written: bool,
     pub fixed: fn(&mut Cases) -> io::Result<()>,
     pub sweep: fn(&mut Cases) -> io::Result<()>,
     pub random: fn(&mut Cases, &mut Rng) -> io::Result<()>,

@@ -1,11 +1,10 @@
 //! All 256 codes of the prefix table; there is nothing else to ask it.
 
-use super::{Cases, Group, Program};
+use super::{Cases, Group};
 use crate::rng::Rng;
 use std::io;
 
-pub const GROUP: Group =
-    Group { name: "prefixes", program: Program::Answers, fixed, sweep, random, share: 0 };
+pub const GROUP: Group = Group { name: "prefixes", written: false, fixed, sweep, random, share: 0 };
 
 fn fixed(cases: &mut Cases) -> io::Result<()> {
     // The table has 36 entries, 0 to 35.

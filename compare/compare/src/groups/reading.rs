@@ -1,15 +1,13 @@
 //! What a phone may have left: containers, blocks and records, whole and not.
 
 use super::image::{block, EIGHT, HEADS, MESSAGE};
-use super::{
-    reading_blocks, reading_fixed, reading_random, reading_records, Cases, Group, Program,
-};
+use super::{reading_blocks, reading_fixed, reading_random, reading_records, Cases, Group};
 use crate::bytes::Hex;
 use std::io;
 
 pub const GROUP: Group = Group {
     name: "reading",
-    program: Program::Answers,
+    written: false,
     fixed: reading_fixed::fixed,
     sweep,
     random: reading_random::random,

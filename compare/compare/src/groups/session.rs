@@ -1,9 +1,7 @@
-//! A session's calls, transfer by transfer. Its lines are operations of the
-//! program `transfers`, and build on each other.
+//! A session's calls, transfer by transfer. Its lines are operations on one
+//! session's buffers, and build on each other.
 
-use super::{
-    session_fixed, session_random, session_refusals, session_retries, Cases, Group, Program,
-};
+use super::{session_fixed, session_random, session_refusals, session_retries, Cases, Group};
 use crate::rng::Rng;
 use crate::session::bus::Replies;
 use crate::session::call::{self, Call};
@@ -17,7 +15,7 @@ use std::io;
 /// A random case is a whole session, some hundreds of lines.
 pub const GROUP: Group = Group {
     name: "session",
-    program: Program::Transfers,
+    written: true,
     fixed: session_fixed::fixed,
     sweep,
     random: session_random::random,

@@ -18,7 +18,10 @@ pub fn fixed(cases: &mut Cases) -> io::Result<()> {
     differences(cases)?;
     out_of_turn(cases)?;
     no_state(cases)?;
-    cases.pair("no_such_operation 1", crate::domain::Who::Document, "?")
+    for unknown in ["no_such_operation 1", "tag_nothing 1", "tag"] {
+        cases.pair(unknown, crate::domain::Who::Document, "?")?;
+    }
+    Ok(())
 }
 
 /// A part from the factory, set up, written, shown and wiped.

@@ -1,18 +1,12 @@
 //! Well-formed UTF-8, by the rows of Unicode's table 3-7.
 
 use super::table_3_7::{boundaries, rows, ILL_FORMED};
-use super::{utf8_random, Cases, Group, Program};
+use super::{utf8_random, Cases, Group};
 use crate::bytes::Hex;
 use std::io;
 
-pub const GROUP: Group = Group {
-    name: "utf8",
-    program: Program::Answers,
-    fixed,
-    sweep,
-    random: utf8_random::random,
-    share: 1_000,
-};
+pub const GROUP: Group =
+    Group { name: "utf8", written: false, fixed, sweep, random: utf8_random::random, share: 1_000 };
 
 /// A checker may go by blocks of 8 or 64 bytes: every place in such blocks.
 const MOST_BEFORE: usize = 70;

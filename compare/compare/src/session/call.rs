@@ -43,21 +43,22 @@ pub fn each() -> impl Iterator<Item = Call> {
 }
 
 impl Call {
+    /// The export without `skp_`: `begin` and `finish` are calls of lib.rs too.
     fn name(self) -> &'static str {
         match self {
-            Call::Identify => "identify",
-            Call::Prepare => "prepare",
-            Call::WaitReady => "wait_ready",
-            Call::RfOff => "rf_off",
-            Call::RfOn => "rf_on",
-            Call::RfWrote => "rf_wrote",
-            Call::Scrub => "scrub",
-            Call::Begin => "begin",
-            Call::GoLive => "go_live",
-            Call::Finish => "finish",
-            Call::ReadUser { .. } => "read_user",
-            Call::Write { .. } => "write",
-            Call::ReadWhole { .. } => "read_whole",
+            Call::Identify => "tag_identify",
+            Call::Prepare => "tag_prepare",
+            Call::WaitReady => "tag_wait_ready",
+            Call::RfOff => "tag_rf_off",
+            Call::RfOn => "tag_rf_on",
+            Call::RfWrote => "tag_rf_wrote",
+            Call::Scrub => "tag_scrub",
+            Call::Begin => "tag_begin",
+            Call::GoLive => "tag_go_live",
+            Call::Finish => "tag_finish",
+            Call::ReadUser { .. } => "tag_read_user",
+            Call::Write { .. } => "tag_write",
+            Call::ReadWhole { .. } => "tag_read_whole",
         }
     }
 

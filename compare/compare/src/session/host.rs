@@ -1,5 +1,5 @@
-//! The host's side of a session, as lines: each operation of the program
-//! `transfers`, and what it must answer.
+//! The host's side of a session, as lines: each operation, and what it must
+//! answer.
 
 use super::bus::Event;
 use super::call::Call;
@@ -97,13 +97,13 @@ impl<'a, 'b> Host<'a, 'b> {
     }
 
     pub fn dirty(&mut self) -> io::Result<()> {
-        self.export(Who::Document, "dirty", self.dirty_step(), false)
+        self.export(Who::Document, "tag_dirty", self.dirty_step(), false)
     }
 
     /// A session anew, also in the middle of a call; refused only for the
     /// length.
     pub fn new_session(&mut self, mark: u64) -> io::Result<()> {
-        let operation = format!("new {mark}");
+        let operation = format!("tag_new {mark}");
         if let Some(number) = reading::refusal(Ask::New, &self.state, self.lent) {
             return self.export(Who::Document, &operation, Step::refused(number), false);
         }
@@ -116,11 +116,11 @@ impl<'a, 'b> Host<'a, 'b> {
     /// The open call's transfer once more, or a refusal; nothing changes.
     pub fn ask_again(&mut self) -> io::Result<()> {
         if let Some(number) = reading::refusal(Ask::Reply, &self.state, self.lent) {
-            return self.export(Who::Document, "next", Step::refused(number), false);
+            return self.export(Who::Document, "tag_next", Step::refused(number), false);
         }
         let (step, sent) = self.asked.clone();
         self.show(&sent);
-        self.export(Who::Original, "next", step, false)
+        self.export(Who::Original, "tag_next", step, false)
     }
 
     /// "the bytes to send stand first in the transfer buffer, zeros after them
@@ -233,5 +233,5 @@ impl<'a, 'b> Host<'a, 'b> {
 }
 
 pub fn reply_line(ack: u64, bytes: &[u8]) -> String {
-    format!("reply {ack} {}", Hex(bytes))
+    format!("tag_reply {ack} {}", Hex(bytes))
 }

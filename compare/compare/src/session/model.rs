@@ -158,13 +158,13 @@ impl Model {
     fn answer(&mut self, line: &str) -> String {
         let name = line.split(' ').next().unwrap_or_default();
         let mut fields = Fields::after(line.as_bytes(), name.as_bytes());
-        let array = NAMES.iter().position(|array| *array == name && name != "reply");
+        let array = NAMES.iter().position(|array| *array == name);
         match (name, array) {
             ("fill", _) => self.arrays = SIZES.map(lent),
             ("lend", _) => self.lent = [(); 5].map(|()| fields.number().unwrap() as usize),
-            ("no_such_operation", _) => return "?".to_string(),
+            ("no_such_operation" | "tag_nothing" | "tag", _) => return "?".to_string(),
             (_, Some(array)) => self.put(array, &fields.bytes().unwrap()),
-            _ => return self.export(name, &mut fields),
+            _ => return self.export(name.strip_prefix("tag_").unwrap(), &mut fields),
         }
         name.to_string()
     }
@@ -187,7 +187,7 @@ impl Model {
             _ => self.start(name, given).unwrap_or_else(Step::refused),
         };
         let changed = u8::from(before != self.arrays[0]);
-        let mut line = format!("{name} {} {} {changed} ", step.0, self.dirty().0);
+        let mut line = format!("tag_{name} {} {} {changed} ", step.0, self.dirty().0);
         push_answer(&mut line, &self.arrays[1]);
         line.push(' ');
         push_answer(&mut line, &self.arrays[2]);

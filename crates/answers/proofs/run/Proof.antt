@@ -1,16 +1,14 @@
 use Rattle.answers.proofs.run.Statement.{statement}
 use Rattle.answers.proofs.run.Tie as tie
-use mathlib.Core.Path.{_≡_}
 use Prim.Native.Nat.{_-_}
-use lib.ListN.{length}
 use borrow.Author.Needs.{needs}
 
 abbrev Inv-loop : tie.InvT-loop
-Inv-loop input₀ out₀ lent₀ kind₀ text₀ have₀ turn₀ input out lent kind text have turn =
-    (length input ≡ length input₀) × (length out ≡ length out₀)
+Inv-loop input₀ said₀ state₀ transfer₀ reply₀ data₀ out₀ room₀ kind₀ text₀ lent₀ have₀ turn₀ input said state transfer reply «data» out room kind text lent have turn =
+    Unit {0}
 
 abbrev μ-loop : tie.MeasureT-loop
-μ-loop input₀ out₀ lent₀ kind₀ text₀ have₀ turn₀ input out lent kind text have turn =
+μ-loop input₀ said₀ state₀ transfer₀ reply₀ data₀ out₀ room₀ kind₀ text₀ lent₀ have₀ turn₀ input said state transfer reply «data» out room kind text lent have turn =
     1_000_000_000_000 - turn
 
 loop-holds : tie.Need-loop-holds Inv-loop μ-loop
@@ -18,12 +16,6 @@ loop-holds c = search needs
 
 fill-requires : tie.Need-fill-requires Inv-loop μ-loop
 fill-requires c κs = search needs
-
-same-length : tie.Need-same-length Inv-loop μ-loop
-same-length c = search needs
-
-same-length-2 : tie.Need-same-length-2 Inv-loop μ-loop
-same-length-2 c = search needs
 
 returns : tie.Need-returns Inv-loop μ-loop
 returns c = search needs
@@ -46,12 +38,6 @@ loop-less c = search needs
 loop-again : tie.Need-loop-again Inv-loop μ-loop
 loop-again c = search needs
 
-same-length-3 : tie.Need-same-length-3 Inv-loop μ-loop
-same-length-3 c = search needs
-
-same-length-4 : tie.Need-same-length-4 Inv-loop μ-loop
-same-length-4 c = search needs
-
 returns-2 : tie.Need-returns-2 Inv-loop μ-loop
 returns-2 c = search needs
 
@@ -63,8 +49,6 @@ run-spec =
     μ-loop
     loop-holds
     fill-requires
-    same-length
-    same-length-2
     returns
     front-requires
     serve-requires
@@ -72,6 +56,4 @@ run-spec =
     add-turn
     loop-less
     loop-again
-    same-length-3
-    same-length-4
     returns-2)

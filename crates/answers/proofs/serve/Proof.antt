@@ -1,16 +1,15 @@
 use Rattle.answers.proofs.serve.Statement.{statement}
 use Rattle.answers.proofs.serve.Tie as tie
-use mathlib.Core.Path.{_≡_}
 use Prim.Native.Nat.{_≤_, _-_}
 use lib.ListN.{length}
 use borrow.Author.Needs.{needs}
 
 abbrev Inv-loop : tie.InvT-loop
-Inv-loop input out₀ lent₀ kind₀ text₀ from₀ at₀ out lent kind text from at =
-    (from ≤ length input) × (length out ≡ length out₀)
+Inv-loop input said₀ state₀ transfer₀ reply₀ data₀ out₀ room₀ kind₀ text₀ from₀ at₀ lent₀ said state transfer reply «data» out room kind text from at lent =
+    from ≤ length input
 
 abbrev μ-loop : tie.MeasureT-loop
-μ-loop input out₀ lent₀ kind₀ text₀ from₀ at₀ out lent kind text from at =
+μ-loop input said₀ state₀ transfer₀ reply₀ data₀ out₀ room₀ kind₀ text₀ from₀ at₀ lent₀ said state transfer reply «data» out room kind text from at lent =
     length input - from
 
 loop-holds : tie.Need-loop-holds Inv-loop μ-loop
@@ -28,17 +27,20 @@ part-rest-end c = search needs
 find-requires : tie.Need-find-requires Inv-loop μ-loop
 find-requires c κs = search needs
 
-front-requires : tie.Need-front-requires Inv-loop μ-loop
-front-requires c κs = search needs
-
-answered-requires : tie.Need-answered-requires Inv-loop μ-loop
-answered-requires c κs = search needs
-
 add-from : tie.Need-add-from Inv-loop μ-loop
 add-from c = search needs
 
 add-from-2 : tie.Need-add-from-2 Inv-loop μ-loop
 add-from-2 c = search needs
+
+front-requires : tie.Need-front-requires Inv-loop μ-loop
+front-requires c κs = search needs
+
+lend-requires : tie.Need-lend-requires Inv-loop μ-loop
+lend-requires c κs = search needs
+
+answered-requires : tie.Need-answered-requires Inv-loop μ-loop
+answered-requires c κs = search needs
 
 loop-less : tie.Need-loop-less Inv-loop μ-loop
 loop-less c = search needs
@@ -48,9 +50,6 @@ loop-again c = search needs
 
 flushed-requires : tie.Need-flushed-requires Inv-loop μ-loop
 flushed-requires c κs = search needs
-
-same-length : tie.Need-same-length Inv-loop μ-loop
-same-length c = search needs
 
 returns : tie.Need-returns Inv-loop μ-loop
 returns c = search needs
@@ -66,12 +65,12 @@ serve-spec =
     part-rest-start
     part-rest-end
     find-requires
-    front-requires
-    answered-requires
     add-from
     add-from-2
+    front-requires
+    lend-requires
+    answered-requires
     loop-less
     loop-again
     flushed-requires
-    same-length
     returns)

@@ -1,8 +1,8 @@
 use borrow.Author.Needs.{needs}
 use lib.Seq.{length-take-le}
 use mathlib.Core.Path.{sym}
-use Rattle.transfers.proofs.step.Statement.{statement}
-use Rattle.transfers.proofs.step.Tie as tie
+use Rattle.answers.proofs.session.step.Statement.{statement}
+use Rattle.answers.proofs.session.step.Tie as tie
 
 least-requires : tie.Need-least-requires
 least-requires c κs = search needs

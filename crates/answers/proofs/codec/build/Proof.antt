@@ -1,6 +1,6 @@
 use borrow.Author.Needs.{needs}
-use Rattle.answers.proofs.build.Statement.{statement}
-use Rattle.answers.proofs.build.Tie as tie
+use Rattle.answers.proofs.codec.build.Statement.{statement}
+use Rattle.answers.proofs.codec.build.Tie as tie
 use lib.Seq.{length-take-le}
 use mathlib.Core.Path.{sym}
 
