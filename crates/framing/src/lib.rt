@@ -3,6 +3,7 @@ ghost use mathlib.Core.Path.{_≡_};
 ghost use mathlib.Core.List.{_∷_, _++_};
 ghost use Prim.Native.Nat.{_/_, _%_, _≤_};
 ghost use lib.ListN.{length, replicate};
+ghost use Rattle.slices.specs.Bytes.{Wrote};
 ghost use Rattle.protocol.specs.Transfer.{place, sent};
 ghost use Rattle.machine.specs.Ask.{meant};
 ghost use Rattle.telling.specs.Step.{padded, AskFits};
@@ -73,4 +74,15 @@ pub fn frame(a: Ask, lent: &[u8]) -> [u8; 19]
         Ask::Read(_, at, _) => head(at, 0),
         Ask::Delay(_) => head(0, 0),
     }
+}
+
+// A frame over the front of the transfer buffer. What stands after the place goes first, so that the compiler stores the place's two
+// bytes at once: a host that then reads them at once would wait for two stores.
+pub fn write_frame(transfer: &mut [u8], bytes: &[u8]) -> usize
+    requires { ⌜ (length (now bytes) ≡ 19) × (19 ≤ length (now transfer)) ⌝ }
+    ensures { λ r. ⌜ Wrote (now (transfer .entry)) 0 (now (bytes .entry)) (now (transfer .exit)) r ⌝ }
+{
+    copy_to(transfer, 2, &bytes[2..]);
+    copy_to(transfer, 0, &bytes[..2]);
+    19
 }

@@ -10,6 +10,7 @@ ghost use Rattle.wipe.specs.Scrub.{scrubAsk};
 ghost use Rattle.state.specs.Bytes.{bytesOf};
 ghost use Rattle.telling.specs.Step.{transferStep, padded};
 use framing::frame;
+use framing::write_frame;
 use numbers::flat::Flat;
 use slices::copy_to;
 use state::bytes::bytes;
@@ -25,6 +26,6 @@ pub fn leave(state: &mut [u8], transfer: &mut [u8], f: Flat, s: Scrub) -> u64
 {
     copy_to(state, 0, &bytes(f));
     let a = scrubbing::ask(s);
-    copy_to(transfer, 0, &frame(a, &[]));
+    write_frame(transfer, &frame(a, &[]));
     ask_step(false, a)
 }

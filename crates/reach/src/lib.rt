@@ -20,18 +20,11 @@ fn back(s: &[u8], from: usize, w: usize) -> usize
     n
 }
 
-// The place after the last byte that is not zero, or 0: how far a wipe has to reach.
-pub fn high_water(s: &[u8]) -> usize
+// The place after the last byte that is not zero, or 0, looked for from the end: by blocks first.
+fn searched(s: &[u8]) -> usize
     ensures { λ r. ⌜ r ≡ highWater (now (s .entry)) ⌝ }
 {
-    let len = s.len();
-    if 0 < len {
-        // full to the end, as an image that was just read may be: no block is looked at
-        if s[len - 1] != 0 {
-            return len;
-        }
-    }
-    let mut n = back(s, back(s, len, 64), 8);
+    let mut n = back(s, back(s, s.len(), 64), 8);
     while 0 < n {
         if s[n - 1] != 0 {
             return n;
@@ -39,4 +32,19 @@ pub fn high_water(s: &[u8]) -> usize
         n -= 1;
     }
     0
+}
+
+// That place: how far a wipe has to reach. An image that was just read may be full to its end: then no block is looked at. The search is
+// called from two places, so that the compiler leaves it where it is and puts the test of the last byte into the callers.
+pub fn high_water(s: &[u8]) -> usize
+    ensures { λ r. ⌜ r ≡ highWater (now (s .entry)) ⌝ }
+{
+    let len = s.len();
+    if len == 0 {
+        return searched(s);
+    }
+    if s[len - 1] != 0 {
+        return len;
+    }
+    searched(s)
 }

@@ -6,6 +6,7 @@
 --   parseOf s                 == the record at the front of s. The chunk flag is judged first; nothing, a head or a part that is not
 --                                all there is Truncated. Message-begin and the format are not judged
 --   Plain s                   == s begins with the head of a record that is short, has no id, is not split and is not the last
+--   PlainOf s k p             == so does s, and the lengths of that record's type name and payload are k and p
 --   endOf r                   == the place after the record r
 --   numberOf p                == document 01's number: 13, 14, and 0 for a record
 use mathlib.Core.Path.{_≡_}
@@ -42,6 +43,9 @@ parseOf s =
 -- bits 3 to 6 of the header: 08 id, 10 short, 20 chunk, 40 last
 abbrev pub Plain : List ℕ → Type 0
 Plain s = (2 < length s) × (getD s 0 0 / 8 % 16 ≡ 2)
+
+abbrev pub PlainOf : List ℕ → ℕ → ℕ → Type 0
+PlainOf s k p = Plain s × ((k ≡ getD s 1 0) × (p ≡ getD s 2 0))
 
 abbrev pub endOf : Record → ℕ
 endOf r = r .kind + r .«kind_len» + r .«id_len» + r .«payload_len»

@@ -2,9 +2,9 @@
 ghost use mathlib.Core.Path.{_≡_};
 ghost use mathlib.Core.Bool.{true};
 ghost use Prim.Native.Nat.{_≤_, _<_, _^_};
-ghost use lib.ListN.{length};
+ghost use lib.ListN.{length, getD};
 ghost use Rattle.heads.specs.Heads.{flag};
-ghost use Rattle.records.specs.Parse.{wholeOf, parseOf, Plain, numberOf};
+ghost use Rattle.records.specs.Parse.{wholeOf, parseOf, Plain, PlainOf, numberOf};
 use heads::head_len;
 use heads::id_len;
 use heads::payload_len;
@@ -41,12 +41,19 @@ pub fn number(p: Parsed) -> u8
 }
 
 // The record, once its lengths are known: 13 where its parts run past the bytes.
-fn whole(s: &[u8], h: u8, last: bool, kind: usize, id_len: usize, payload_len: usize) -> Parsed
-    requires { ⌜ last ≡ flag 0x40 h ⌝ }
-    requires { ⌜ (1 < length (now s)) × ((kind ≤ 7) × ((«id_len» < 256) × («payload_len» < 2 ^ 32))) ⌝ }
+fn whole(
+    s: &[u8],
+    h: u8,
+    last: bool,
+    kind: usize,
+    kind_len: usize,
+    id_len: usize,
+    payload_len: usize,
+) -> Parsed
+    requires { ⌜ (last ≡ flag 0x40 h) × («kind_len» ≡ getD (now s) 1 0) ⌝ }
+    requires { ⌜ (kind ≤ 7) × ((«kind_len» < 256) × ((«id_len» < 256) × («payload_len» < 2 ^ 32))) ⌝ }
     ensures { λ r. ⌜ r ≡ wholeOf (now (s .entry)) h kind «id_len» «payload_len» ⌝ }
 {
-    let kind_len = wide(s[1]);
     if s.len() < kind + kind_len + id_len + payload_len {
         return Parsed::Truncated;
     }
@@ -70,12 +77,20 @@ pub fn is_plain(bytes: &[u8]) -> bool
     bytes[0] / 8 % 16 == 2
 }
 
-// Such a record. By itself, so that the compiler knows of it that another follows.
-pub fn plain_record(bytes: &[u8]) -> Parsed
-    requires { ⌜ Plain (now bytes) ⌝ }
+// Such a record, once its lengths have been read. By itself, so that the compiler knows of it that another follows.
+pub fn plain_record(bytes: &[u8], kind_len: u8, payload_len: u8) -> Parsed
+    requires { ⌜ PlainOf (now bytes) «kind_len» «payload_len» ⌝ }
     ensures { λ r. ⌜ r ≡ parseOf (now (bytes .entry)) ⌝ }
 {
-    whole(bytes, bytes[0], false, 3, 0, wide(bytes[2]))
+    whole(
+        bytes,
+        bytes[0],
+        false,
+        3,
+        wide(kind_len),
+        0,
+        wide(payload_len),
+    )
 }
 
 // The record at the front of `bytes`.
@@ -95,5 +110,5 @@ pub fn parse_record(bytes: &[u8]) -> Parsed
     }
     let id = id_len(bytes, h);
     let payload = payload_len(bytes, h);
-    whole(bytes, h, h / 64 % 2 == 1, kind, id, payload)
+    whole(bytes, h, h / 64 % 2 == 1, kind, wide(bytes[1]), id, payload)
 }

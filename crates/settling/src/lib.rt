@@ -10,6 +10,7 @@ ghost use Rattle.telling.specs.Step.{answerStep, transferStep};
 ghost use Rattle.telling.specs.Fit.{StageFits, TurnFits, StartFits};
 use decoding::encode;
 use framing::frame;
+use framing::write_frame;
 use outcomes::number;
 use outcomes::value;
 use protocol::answer::Answer;
@@ -50,7 +51,7 @@ pub fn ask(transfer: &mut [u8], lent: &[u8], st: Stage) -> u64
     ensures { λ _. ⌜ now (transfer .exit) ≡ framed (now (lent .entry)) st (now (transfer .entry)) ⌝ }
 {
     let a = stage_ask(st, lent.len());
-    copy_to(transfer, 0, &frame(a, lent));
+    write_frame(transfer, &frame(a, lent));
     ask_step(into_out(st), a)
 }
 

@@ -11,6 +11,7 @@ ghost use Rattle.wipe.specs.Scrub.{scrubAsk};
 ghost use Rattle.telling.specs.Step.{transferStep, padded};
 ghost use Rattle.wiping.specs.Sweep.{Passes, swept, Clean};
 use framing::frame;
+use framing::write_frame;
 use moving::bare;
 use noting::wipes;
 use restoring::chunk_from;
@@ -78,6 +79,6 @@ pub fn sweep(state: &mut [u8], transfer: &mut [u8], p: Chunk) -> u64
     ];
     copy_to(state, 12, &changed);
     let a = scrubbing::ask(Scrub::Read(p));
-    copy_to(transfer, 0, &frame(a, &[]));
+    write_frame(transfer, &frame(a, &[]));
     ask_step(false, a)
 }

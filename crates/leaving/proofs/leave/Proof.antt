@@ -24,11 +24,11 @@ slice-aggregate-frame c = search needs
 frame-requires : tie.Need-frame-requires
 frame-requires c κs = subst (AskFits 0) (sym (c .before .before .ask .ensures)) (scrub-fits 0 (c .before .before .before .before .before .before .before .before .before .before .before .args .s))
 
-slice-aggregate-copy-to-2 : tie.Need-slice-aggregate-copy-to-2
-slice-aggregate-copy-to-2 c = search needs
+slice-aggregate-write-frame : tie.Need-slice-aggregate-write-frame
+slice-aggregate-write-frame c = search needs
 
-copy-to-requires-2 : tie.Need-copy-to-requires-2
-copy-to-requires-2 c κs = search needs
+write-frame-requires : tie.Need-write-frame-requires
+write-frame-requires c κs = search needs
 
 ask-step-requires : tie.Need-ask-step-requires
 ask-step-requires c κs = subst (AskFits 8192) (sym (c .before .before .before .before .before .before .before .ask .ensures)) (scrub-fits 8192 (c .before .before .before .before .before .before .before .before .before .before .before .before .before .before .before .before .args .s))
@@ -40,7 +40,7 @@ same-length-2 : tie.Need-same-length-2
 same-length-2 c = search needs
 
 returns : tie.Need-returns
-returns c = let h = leave-is (c .before .before .before .before .before .before .before .before .before .before .before .before .before .before .before .before .before .args .s) (c .before .before .before .before .before .before .before .before .before .before .before .before .before .before .before .before .before .args .f) (c .before .before .before .before .before .before .before .before .ask .result) (c .before .before .before .before .before .before .before .before .before .before .before .before .before .bytes .result) (now (c .before .before .before .before .before .before .before .before .before .before .before .before .before .before .before .before .before .args .state)) _ _ (c .before .before .before .before .before .frame .result) (now (c .before .before .before .before .before .before .before .before .before .before .before .before .before .before .before .before .before .args .transfer)) _ _ (c .ask-step .result) (c .before .before .before .before .before .before .before .before .before .before .before .before .before .before .before .before .before .pre .0) (c .before .before .before .before .before .before .before .before .before .before .before .before .before .bytes .ensures) (c .before .before .before .before .before .before .before .before .before .before .before .copy-to .ensures) (c .before .before .before .before .before .before .before .before .ask .ensures) (c .before .before .before .before .before .frame .ensures) (c .before .before .before .copy-to2 .ensures) (c .ask-step .ensures) in (h .0, (h .1, h .2))
+returns c = let h = leave-is (c .before .before .before .before .before .before .before .before .before .before .before .before .before .before .before .before .before .args .s) (c .before .before .before .before .before .before .before .before .before .before .before .before .before .before .before .before .before .args .f) (c .before .before .before .before .before .before .before .before .ask .result) (c .before .before .before .before .before .before .before .before .before .before .before .before .before .bytes .result) (now (c .before .before .before .before .before .before .before .before .before .before .before .before .before .before .before .before .before .args .state)) _ _ (c .before .before .before .before .before .frame .result) (now (c .before .before .before .before .before .before .before .before .before .before .before .before .before .before .before .before .before .args .transfer)) _ _ (c .ask-step .result) (c .before .before .before .before .before .before .before .before .before .before .before .before .before .before .before .before .before .pre .0) (c .before .before .before .before .before .before .before .before .before .before .before .before .before .bytes .ensures) (c .before .before .before .before .before .before .before .before .before .before .before .copy-to .ensures) (c .before .before .before .before .before .before .before .before .ask .ensures) (c .before .before .before .before .before .frame .ensures) (c .before .before .before .write-frame .ensures) (c .ask-step .ensures) in (h .0, (h .1, h .2))
 
 pub leave-spec : {M : Type 1} → statement M
 leave-spec =
@@ -52,8 +52,8 @@ leave-spec =
     ask-requires
     slice-aggregate-frame
     frame-requires
-    slice-aggregate-copy-to-2
-    copy-to-requires-2
+    slice-aggregate-write-frame
+    write-frame-requires
     ask-step-requires
     same-length
     same-length-2

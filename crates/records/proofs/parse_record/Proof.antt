@@ -37,15 +37,21 @@ id-len-requires c κs = search needs
 payload-len-requires : tie.Need-payload-len-requires
 payload-len-requires c κs = search needs
 
+shared-slice-read-wide : tie.Need-shared-slice-read-wide
+shared-slice-read-wide c = omega (arith, head-least (getD (now (c .before .before .before .before .before .before .before .before .before .args .bytes)) 0 0), c .before .before .before .before .head-len .ensures .0)
+
+wide-requires : tie.Need-wide-requires
+wide-requires c κs = tt
+
 whole-requires : tie.Need-whole-requires
 whole-requires c κs =
-    let l = head-least (getD (now (c .before .before .before .before .before .before .before .before .args .bytes)) 0 0) in
-    (refl, omega (arith, l, c .before .before .before .head-len .ensures .0, c .before .before .before .head-len .ensures .1, c .before .id-len .ensures .1, c .payload-len .ensures .1))
+    let l = head-least (getD (now (c .before .before .before .before .before .before .before .before .before .before .args .bytes)) 0 0) in
+    ((refl, c .wide .ensures .0), omega (arith, l, c .before .before .before .before .before .head-len .ensures .0, c .before .before .before .before .before .head-len .ensures .1, c .wide .ensures .1, c .before .before .before .id-len .ensures .1, c .before .before .payload-len .ensures .1))
 
 returns-4 : tie.Need-returns-4
 returns-4 c =
     c .whole .ensures
-    ∙ long-way (now (c .before .before .before .before .before .before .before .before .before .args .bytes)) (c .before .before .before .before .head-len .ensures .0) (c .before .before .id-len .ensures .0) (c .before .payload-len .ensures .0) (ne-eqb _ _ (c .before .before .before .before .before .if2 .left)) (omega arith)
+    ∙ long-way (now (c .before .before .before .before .before .before .before .before .before .before .before .args .bytes)) (c .before .before .before .before .before .before .head-len .ensures .0) (c .before .before .before .before .id-len .ensures .0) (c .before .before .before .payload-len .ensures .0) (ne-eqb _ _ (c .before .before .before .before .before .before .before .if2 .left)) (omega arith)
 
 pub parse-record-spec : {M : Type 1} → statement M
 parse-record-spec =
@@ -58,5 +64,7 @@ parse-record-spec =
     returns-3
     id-len-requires
     payload-len-requires
+    shared-slice-read-wide
+    wide-requires
     whole-requires
     returns-4)

@@ -18,11 +18,11 @@ frame-requires : tie.Need-frame-requires
 unfolding StageFits
 frame-requires c κs = subst (AskFits (length (now (c .before .before .before .before .args .lent)))) (sym (c .before .stage-ask .ensures)) (c .before .before .before .before .pre .1 .1)
 
-slice-aggregate-copy-to : tie.Need-slice-aggregate-copy-to
-slice-aggregate-copy-to c = search needs
+slice-aggregate-write-frame : tie.Need-slice-aggregate-write-frame
+slice-aggregate-write-frame c = search needs
 
-copy-to-requires : tie.Need-copy-to-requires
-copy-to-requires c κs = search needs
+write-frame-requires : tie.Need-write-frame-requires
+write-frame-requires c κs = search needs
 
 into-out-requires : tie.Need-into-out-requires
 into-out-requires c κs = search needs
@@ -36,7 +36,7 @@ same-length c = search needs
 
 returns : tie.Need-returns
 unfolding StageFits
-returns c = asked (now (c .before .before .before .before .before .before .before .before .before .before .before .args .lent)) (c .before .before .before .before .before .before .before .before .before .before .before .args .st) (c .before .before .before .before .before .before .before .before .stage-ask .result) (c .before .into-out .result) (now (c .before .before .before .before .before .before .before .before .before .before .before .args .transfer)) (c .before .before .before .before .before .before .frame .result) _ _ (c .before .before .before .before .before .before .before .before .stage-ask .ensures) (c .before .into-out .ensures) (c .before .before .before .before .before .before .before .before .before .before .before .pre .1 .1) (c .before .before .before .before .before .before .frame .ensures) (c .before .before .before .before .copy-to .ensures) (c .ask-step .result) (c .ask-step .ensures)
+returns c = asked (now (c .before .before .before .before .before .before .before .before .before .before .before .args .lent)) (c .before .before .before .before .before .before .before .before .before .before .before .args .st) (c .before .before .before .before .before .before .before .before .stage-ask .result) (c .before .into-out .result) (now (c .before .before .before .before .before .before .before .before .before .before .before .args .transfer)) (c .before .before .before .before .before .before .frame .result) _ _ (c .before .before .before .before .before .before .before .before .stage-ask .ensures) (c .before .into-out .ensures) (c .before .before .before .before .before .before .before .before .before .before .before .pre .1 .1) (c .before .before .before .before .before .before .frame .ensures) (c .before .before .before .before .write-frame .ensures) (c .ask-step .result) (c .ask-step .ensures)
 
 pub ask-spec : {M : Type 1} → statement M
 ask-spec =
@@ -44,8 +44,8 @@ ask-spec =
     (tie.spec
     stage-ask-requires
     frame-requires
-    slice-aggregate-copy-to
-    copy-to-requires
+    slice-aggregate-write-frame
+    write-frame-requires
     into-out-requires
     ask-step-requires
     same-length
