@@ -6,8 +6,6 @@
 mod codec;
 mod session;
 
-ghost use Prim.Native.Nat.{_≤_};
-ghost use lib.ListN.{length};
 use crate::codec::Room;
 use buffers::arrays;
 use buffers::arrays::Data;
@@ -16,20 +14,23 @@ use buffers::arrays::Reply;
 use buffers::arrays::State;
 use buffers::arrays::Transfer;
 use buffers::names;
-use cases::words::find;
 use cases::words::first;
 use lines::said;
-use lines::stream::fill;
+use lines::stream;
 use lines::stream::flushed;
-use lines::stream::keep;
-use slices::front;
 
-// The answer to one line, at `at`, without its line feed.
-fn answer(
+// The end of a line that was answered; the answers are written out once half a buffer is full. The place where the next one goes.
+fn end_line(said: &mut [u8], at: usize) -> usize {
+    let end = said::text(said, at, b"\n");
+    flushed(said, end, 131072)
+}
+
+// The answer to one line, at `at`.
+fn answered(
     line: &[u8],
+    lent: Lent,
     said: &mut [u8],
     at: usize,
-    lent: Lent,
     state: &mut State,
     transfer: &mut Transfer,
     reply: &mut Reply,
@@ -41,7 +42,7 @@ fn answer(
 ) -> usize {
     let call = names::export(first(line));
     if call != 0 {
-        return session::export(
+        let a = session::export(
             line,
             said,
             at,
@@ -53,106 +54,23 @@ fn answer(
             data,
             out,
         );
+        return end_line(said, a);
     }
     let operation = names::on_arrays(first(line));
     if operation != 0 {
         arrays::prepare(line, operation, state, transfer, reply, data, out);
-        return said::text(said, at, first(line));
+        let a = said::text(said, at, first(line));
+        return end_line(said, a);
     }
-    codec::answer(line, said, at, room, kind, text)
-}
-
-// The answer with its line feed, written out once half a buffer is full; the place where the next one goes.
-fn answered(
-    line: &[u8],
-    said: &mut [u8],
-    at: usize,
-    lent: Lent,
-    state: &mut State,
-    transfer: &mut Transfer,
-    reply: &mut Reply,
-    data: &mut Data,
-    out: &mut Data,
-    room: &mut Room,
-    kind: &mut Room,
-    text: &mut Room,
-) -> usize {
-    let a = answer(
-        line,
-        said,
-        at,
-        lent,
-        state,
-        transfer,
-        reply,
-        data,
-        out,
-        room,
-        kind,
-        text,
-    );
-    let end = said::text(said, a, b"\n");
-    flushed(said, end, 131072)
+    let a = codec::answer(line, said, at, room, kind, text);
+    end_line(said, a)
 }
 
 type Input = [u8; 65536];
 
 type Said = [u8; 262144];
 
-// What stays from one read of the input to the next: how far the lines were answered, and what is lent.
-struct Served {
-    used: usize,
-    lent: Lent,
-}
-
-// Answers every whole line of `input`.
-fn serve(
-    input: &[u8],
-    said: &mut Said,
-    was: Lent,
-    state: &mut State,
-    transfer: &mut Transfer,
-    reply: &mut Reply,
-    data: &mut Data,
-    out: &mut Data,
-    room: &mut Room,
-    kind: &mut Room,
-    text: &mut Room,
-) -> Served
-    ensures { λ r. ⌜ r .used ≤ length (now (input .entry)) ⌝ }
-{
-    let mut from = 0;
-    let mut at = 0;
-    let mut lent = was;
-    while from < input.len() {
-        let rest = &input[from..];
-        let n = find(rest, b'\n');
-        if rest.len() <= n {
-            break;
-        }
-        from = from + n + 1;
-        let line = front(rest, n);
-        lent = arrays::lend(line, lent);
-        at = answered(
-            line,
-            said,
-            at,
-            lent,
-            state,
-            transfer,
-            reply,
-            data,
-            out,
-            room,
-            kind,
-            text,
-        );
-    }
-    flushed(said, at, 0);
-    Served { used: from, lent }
-}
-
-// One turn for each read; a read that adds nothing ends the run.
+// One turn for each line, and for each read.
 fn run(
     input: &mut Input,
     said: &mut Said,
@@ -165,35 +83,33 @@ fn run(
     kind: &mut Room,
     text: &mut Room,
 ) {
-    let mut lent = Lent {
-        state: 20,
-        transfer: 24,
-        reply: 72,
-        data: 0,
-        out: 0,
-    };
-    let mut have = 0;
+    let mut lent = arrays::lent_at_first();
+    let mut feed = stream::begun();
     let mut turn: u64 = 0;
     while turn < 1_000_000_000_000 {
-        let got = fill(input, have);
-        if got <= have {
+        feed = stream::next(input, said, feed);
+        if feed.ended {
             return;
         }
-        let served = serve(
-            front(input, got),
-            said,
-            lent,
-            state,
-            transfer,
-            reply,
-            data,
-            out,
-            room,
-            kind,
-            text,
-        );
-        lent = served.lent;
-        have = keep(input, served.used, got);
+        if feed.whole {
+            let line = stream::line(input, feed);
+            lent = arrays::lend(line, lent);
+            let at = answered(
+                line,
+                lent,
+                said,
+                feed.at,
+                state,
+                transfer,
+                reply,
+                data,
+                out,
+                room,
+                kind,
+                text,
+            );
+            feed = stream::after(feed, at);
+        }
         turn += 1;
     }
 }

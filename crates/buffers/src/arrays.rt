@@ -25,6 +25,16 @@ pub struct Lent {
     pub out: usize,
 }
 
+pub fn lent_at_first() -> Lent {
+    Lent {
+        state: 20,
+        transfer: 24,
+        reply: 72,
+        data: 0,
+        out: 0,
+    }
+}
+
 pub fn lend(line: &[u8], was: Lent) -> Lent {
     if check::same(cases::words::first(line), b"lend") {
         return Lent {

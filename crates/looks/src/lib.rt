@@ -1,40 +1,41 @@
 // What a read asks of the part.
 ghost use mathlib.Core.Path.{_≡_};
-ghost use Rattle.part.specs.Looks.{dynamicAt, systemAt, userLook, systemLook, lookOf};
+ghost use Rattle.part.specs.Looks.{among, dynamicAt, systemAt, userLook, systemLook, lookOf};
 use incoming::inside;
 use incoming::place_of;
 use part::look::Look;
 
+// One of three registers, by its address.
+fn among(at: usize, a: usize, x: Look, b: usize, y: Look, c: usize, z: Look) -> Look
+    ensures { λ r. ⌜ r ≡ among at a x b y c z ⌝ }
+{
+    if at == a {
+        return x;
+    }
+    if at == b {
+        return y;
+    }
+    if at == c { z } else { Look::Unknown }
+}
+
 fn dynamic_at(at: usize) -> Look
     ensures { λ r. ⌜ r ≡ dynamicAt at ⌝ }
 {
-    if at == 0x2003 {
-        return Look::Dynamic;
-    }
-    if at == 0x2004 {
-        return Look::Session;
-    }
-    if at == 0x2005 {
-        Look::Status
-    } else {
-        Look::Unknown
-    }
+    among(
+        at,
+        0x2003,
+        Look::Dynamic,
+        0x2004,
+        Look::Session,
+        0x2005,
+        Look::Status,
+    )
 }
 
 fn system_at(at: usize) -> Look
     ensures { λ r. ⌜ r ≡ systemAt at ⌝ }
 {
-    if at == 0 {
-        return Look::Byte(0);
-    }
-    if at == 3 {
-        return Look::Byte(3);
-    }
-    if at == 14 {
-        Look::Byte(14)
-    } else {
-        Look::Unknown
-    }
+    among(at, 0, Look::Byte(0), 3, Look::Byte(3), 14, Look::Byte(14))
 }
 
 fn user_look(at: usize, n: usize) -> Look

@@ -4,6 +4,7 @@
 --   lookOf dev head n               == what reading n bytes after `head` from the address `dev` asks for
 --   userLook at n                   == the same at the user address: memory, or, for one byte, a dynamic register
 --   systemLook at n                 == the same at the system address: for one byte a system register, or the identification
+--   among at a x b y c z            == x, y or z where the address is a, b or c; else Unknown
 --   dynamicAt at, systemAt at       == a dynamic register and a system register, by its address; Unknown where there is none
 --   known k                         == such a read is answered
 --   answered dev head n r           == it is acknowledged: no cycle runs, and it is such a read
@@ -24,13 +25,16 @@ use Rattle.part.specs.declared.look.Look.{Look}
 use Rattle.part.specs.declared.look.Look.the-variants.{Memory, Dynamic, Session, Status, Byte, Identity, Unknown}
 use Rattle.part.specs.declared.registers.Registers.{Registers}
 
+abbrev pub among : ℕ → ℕ → Look → ℕ → Look → ℕ → Look → Look
+among at a x b y c z = if eqb at a then x else if eqb at b then y else if eqb at c then z else Unknown
+
 -- a dynamic register, by its address
 abbrev pub dynamicAt : ℕ → Look
-dynamicAt at = if eqb at rfMngtDyn then Dynamic else if eqb at i2cSsoDyn then Session else if eqb at itStsDyn then Status else Unknown
+dynamicAt at = among at rfMngtDyn Dynamic i2cSsoDyn Session itStsDyn Status
 
 -- a system register, by its address
 abbrev pub systemAt : ℕ → Look
-systemAt at = if eqb at gpo1 then Byte gpo1 else if eqb at rfMngt then Byte rfMngt else if eqb at i2cCfg then Byte i2cCfg else Unknown
+systemAt at = among at gpo1 (Byte gpo1) rfMngt (Byte rfMngt) i2cCfg (Byte i2cCfg)
 
 abbrev pub userLook : ℕ → ℕ → Look
 userLook at n = if leb (at + n) userMemory then Memory at else if eqb n 1 then dynamicAt at else Unknown

@@ -1,4 +1,3 @@
-pub mod Binds
 pub mod Bounds
 pub mod Marks
 pub mod OneRows

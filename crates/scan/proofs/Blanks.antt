@@ -82,7 +82,3 @@ alike-equal [] (y ∷ ys) e = absurd (let z : _≡_ {A = ℕ} 0 1 = cc in omega 
 alike-equal (x ∷ xs) [] e = absurd (let z : _≡_ {A = ℕ} 0 1 = cc in omega arith)
 alike-equal (x ∷ xs) (y ∷ ys) e =
     ap₂ (λ (b : ℕ) (l : List ℕ). b ∷ l) (eqb-true x y (and-left (eqb x y) (alike xs ys) e)) (alike-equal xs ys (and-right (eqb x y) (alike xs ys) e))
-
-pub alike-self : (a : List ℕ) → alike a a ≡ true
-alike-self [] = refl
-alike-self (x ∷ xs) = rw (eq-eqb x x refl) (alike-self xs)

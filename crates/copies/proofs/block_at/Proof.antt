@@ -10,24 +10,6 @@ use Rattle.slices.proofs.Splice.{splice-whole}
 use Rattle.copies.proofs.block_at.Statement.{statement}
 use Rattle.copies.proofs.block_at.Tie as tie
 
-slice-aggregate-copy-to : tie.Need-slice-aggregate-copy-to
-slice-aggregate-copy-to c = search needs
-
-add-copy-to : tie.Need-add-copy-to
-add-copy-to c = search needs
-
-sub-copy-to : tie.Need-sub-copy-to
-sub-copy-to c = search needs
-
-part-copy-to-start : tie.Need-part-copy-to-start
-part-copy-to-start c = search needs
-
-part-copy-to-end : tie.Need-part-copy-to-end
-part-copy-to-end c = search needs
-
-copy-to-requires : tie.Need-copy-to-requires
-copy-to-requires c κs = search needs
-
 returns : tie.Need-returns
 returns c =
     let a = c .before .before .before .before .before .args in
@@ -39,11 +21,5 @@ returns c =
 pub block-at-spec : {M : Type 1} → statement M
 block-at-spec =
     tie.close
-    (tie.spec
-    slice-aggregate-copy-to
-    add-copy-to
-    sub-copy-to
-    part-copy-to-start
-    part-copy-to-end
-    copy-to-requires
-    returns)
+    (tie.spec (λ c. search needs) (λ c. search needs) (λ c. search needs) (λ c. search needs) (λ c. search needs)
+    (λ c κs. search needs) returns)

@@ -3,18 +3,6 @@ use Rattle.counting.proofs.scrub_row.Statement.{statement}
 use Rattle.counting.proofs.scrub_row.Tie as tie
 use Rattle.counting.proofs.Counts.{wait-row}
 
-enum-told : tie.Need-enum-told
-enum-told c = search needs
-
-enum-told-2 : tie.Need-enum-told-2
-enum-told-2 c = search needs
-
-enum-told-3 : tie.Need-enum-told-3
-enum-told-3 c = search needs
-
-enum-told-4 : tie.Need-enum-told-4
-enum-told-4 c = search needs
-
 returns : tie.Need-returns
 returns c = rw (c .enum-told .given .1)
 
@@ -30,4 +18,5 @@ returns-4 c = rw (c .enum-told4 .given .1)
 pub scrub-row-spec : {M : Type 1} → statement M
 scrub-row-spec =
     tie.close
-    (tie.spec enum-told enum-told-2 enum-told-3 enum-told-4 returns returns-2 returns-3 returns-4)
+    (tie.spec (λ c. search needs) (λ c. search needs) (λ c. search needs) (λ c. search needs) returns returns-2
+    returns-3 returns-4)

@@ -2,36 +2,6 @@ use borrow.Author.Needs.{needs}
 use Rattle.flattening.proofs.setup_code.Statement.{statement}
 use Rattle.flattening.proofs.setup_code.Tie as tie
 
-enum-told : tie.Need-enum-told
-enum-told c = search needs
-
-code-requires : tie.Need-code-requires
-code-requires c κs = search needs
-
-enum-told-2 : tie.Need-enum-told-2
-enum-told-2 c = search needs
-
-code-requires-2 : tie.Need-code-requires-2
-code-requires-2 c κs = search needs
-
-enum-known-s : tie.Need-enum-known-s
-enum-known-s c = search needs
-
-open-code-requires : tie.Need-open-code-requires
-open-code-requires c κs = search needs
-
-enum-known-s-2 : tie.Need-enum-known-s-2
-enum-known-s-2 c = search needs
-
-store-code-requires : tie.Need-store-code-requires
-store-code-requires c κs = search needs
-
-enum-told-3 : tie.Need-enum-told-3
-enum-told-3 c = search needs
-
-code-requires-3 : tie.Need-code-requires-3
-code-requires-3 c κs = search needs
-
 returns : tie.Need-returns
 returns c = rw (c .before .enum-told .given .1, ← (c .code .ensures))
 
@@ -50,19 +20,6 @@ returns-5 c = rw (c .before .enum-told3 .given .1, ← (c .code3 .ensures))
 pub setup-code-spec : {M : Type 1} → statement M
 setup-code-spec =
     tie.close
-    (tie.spec
-    enum-told
-    code-requires
-    enum-told-2
-    code-requires-2
-    enum-known-s
-    open-code-requires
-    enum-known-s-2
-    store-code-requires
-    enum-told-3
-    code-requires-3
-    returns
-    returns-2
-    returns-3
-    returns-4
-    returns-5)
+    (tie.spec (λ c. search needs) (λ c κs. search needs) (λ c. search needs) (λ c κs. search needs)
+    (λ c. search needs) (λ c κs. search needs) (λ c. search needs) (λ c κs. search needs) (λ c. search needs)
+    (λ c κs. search needs) returns returns-2 returns-3 returns-4 returns-5)

@@ -4,24 +4,6 @@ use Rattle.protocol.specs.Answer.{errorNumber}
 use Rattle.outcomes.proofs.error_number.Statement.{statement}
 use Rattle.outcomes.proofs.error_number.Tie as tie
 
-enum-told : tie.Need-enum-told
-enum-told c = search needs
-
-enum-told-2 : tie.Need-enum-told-2
-enum-told-2 c = search needs
-
-enum-told-3 : tie.Need-enum-told-3
-enum-told-3 c = search needs
-
-enum-told-4 : tie.Need-enum-told-4
-enum-told-4 c = search needs
-
-enum-told-5 : tie.Need-enum-told-5
-enum-told-5 c = search needs
-
-enum-told-6 : tie.Need-enum-told-6
-enum-told-6 c = search needs
-
 returns : tie.Need-returns
 returns c = ap errorNumber (sym (c .enum-told .given .1))
 
@@ -41,4 +23,7 @@ returns-6 : tie.Need-returns-6
 returns-6 c = ap errorNumber (sym (c .enum-told6 .given .1))
 
 pub error-number-spec : {M : Type 1} → statement M
-error-number-spec = tie.close (tie.spec enum-told enum-told-2 enum-told-3 enum-told-4 enum-told-5 enum-told-6 returns returns-2 returns-3 returns-4 returns-5 returns-6)
+error-number-spec =
+    tie.close
+    (tie.spec (λ c. search needs) (λ c. search needs) (λ c. search needs) (λ c. search needs) (λ c. search needs)
+    (λ c. search needs) returns returns-2 returns-3 returns-4 returns-5 returns-6)

@@ -4,18 +4,6 @@ use Rattle.records.specs.Parse.{numberOf}
 use Rattle.records.proofs.number.Statement.{statement}
 use Rattle.records.proofs.number.Tie as tie
 
-enum-told : tie.Need-enum-told
-enum-told c = search needs
-
-enum-told-2 : tie.Need-enum-told-2
-enum-told-2 c = search needs
-
-enum-told-3 : tie.Need-enum-told-3
-enum-told-3 c = search needs
-
-returns : tie.Need-returns
-returns c = ap numberOf (sym (c .enum-told .given .1))
-
 returns-2 : tie.Need-returns-2
 returns-2 c = ap numberOf (sym (c .enum-told2 .given .1))
 
@@ -23,4 +11,7 @@ returns-3 : tie.Need-returns-3
 returns-3 c = ap numberOf (sym (c .enum-told3 .given .1))
 
 pub number-spec : {M : Type 1} → statement M
-number-spec = tie.close (tie.spec enum-told enum-told-2 enum-told-3 returns returns-2 returns-3)
+number-spec =
+    tie.close
+    (tie.spec (λ c. search needs) (λ c. search needs) (λ c. search needs)
+    (λ c. ap numberOf (sym (c .enum-told .given .1))) returns-2 returns-3)

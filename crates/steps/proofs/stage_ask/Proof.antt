@@ -4,86 +4,8 @@ use Rattle.steps.proofs.stage_ask.Tie as tie
 use mathlib.Core.Path.{subst}
 use Rattle.stages.specs.Able.{Able}
 
-enum-told : tie.Need-enum-told
-enum-told c = search needs
-
-enum-known-st : tie.Need-enum-known-st
-enum-known-st c = search needs
-
-ask-requires : tie.Need-ask-requires
-ask-requires c κs = search needs
-
-enum-known-st-2 : tie.Need-enum-known-st-2
-enum-known-st-2 c = search needs
-
-ask-requires-2 : tie.Need-ask-requires-2
-ask-requires-2 c κs = search needs
-
-enum-known-st-3 : tie.Need-enum-known-st-3
-enum-known-st-3 c = search needs
-
-enum-known-st-4 : tie.Need-enum-known-st-4
-enum-known-st-4 c = search needs
-
 ask-requires-3 : tie.Need-ask-requires-3
 ask-requires-3 c κs = subst (Able (c .before .before .before .args .len) 8192) (c .before .st4 .given .1) (c .before .before .before .pre)
-
-enum-known-st-5 : tie.Need-enum-known-st-5
-enum-known-st-5 c = search needs
-
-ask-requires-4 : tie.Need-ask-requires-4
-ask-requires-4 c κs = search needs
-
-enum-told-2 : tie.Need-enum-told-2
-enum-told-2 c = search needs
-
-enum-known-st-6 : tie.Need-enum-known-st-6
-enum-known-st-6 c = search needs
-
-ask-requires-5 : tie.Need-ask-requires-5
-ask-requires-5 c κs = search needs
-
-enum-told-3 : tie.Need-enum-told-3
-enum-told-3 c = search needs
-
-enum-told-4 : tie.Need-enum-told-4
-enum-told-4 c = search needs
-
-enum-known-st-7 : tie.Need-enum-known-st-7
-enum-known-st-7 c = search needs
-
-ask-requires-6 : tie.Need-ask-requires-6
-ask-requires-6 c κs = search needs
-
-enum-known-st-8 : tie.Need-enum-known-st-8
-enum-known-st-8 c = search needs
-
-ask-requires-7 : tie.Need-ask-requires-7
-ask-requires-7 c κs = search needs
-
-enum-known-st-9 : tie.Need-enum-known-st-9
-enum-known-st-9 c = search needs
-
-ask-requires-8 : tie.Need-ask-requires-8
-ask-requires-8 c κs = search needs
-
-enum-told-5 : tie.Need-enum-told-5
-enum-told-5 c = search needs
-
-enum-known-st-10 : tie.Need-enum-known-st-10
-enum-known-st-10 c = search needs
-
-ask-requires-9 : tie.Need-ask-requires-9
-ask-requires-9 c κs = search needs
-
-enum-told-6 : tie.Need-enum-told-6
-enum-told-6 c = search needs
-
-enum-known-st-11 : tie.Need-enum-known-st-11
-enum-known-st-11 c = search needs
-
-ask-requires-10 : tie.Need-ask-requires-10
-ask-requires-10 c κs = search needs
 
 returns : tie.Need-returns
 returns c = rw (c .enum-told .given .1)
@@ -139,48 +61,11 @@ returns-17 c = rw (c .before .before .st11 .given .1) (c .ask10 .ensures)
 pub stage-ask-spec : {M : Type 1} → statement M
 stage-ask-spec =
     tie.close
-    (tie.spec
-    enum-told
-    enum-known-st
-    ask-requires
-    enum-known-st-2
-    ask-requires-2
-    enum-known-st-3
-    enum-known-st-4
-    ask-requires-3
-    enum-known-st-5
-    ask-requires-4
-    enum-told-2
-    enum-known-st-6
-    ask-requires-5
-    enum-told-3
-    enum-told-4
-    enum-known-st-7
-    ask-requires-6
-    enum-known-st-8
-    ask-requires-7
-    enum-known-st-9
-    ask-requires-8
-    enum-told-5
-    enum-known-st-10
-    ask-requires-9
-    enum-told-6
-    enum-known-st-11
-    ask-requires-10
-    returns
-    returns-2
-    returns-3
-    returns-4
-    returns-5
-    returns-6
-    returns-7
-    returns-8
-    returns-9
-    returns-10
-    returns-11
-    returns-12
-    returns-13
-    returns-14
-    returns-15
-    returns-16
-    returns-17)
+    (tie.spec (λ c. search needs) (λ c. search needs) (λ c κs. search needs) (λ c. search needs)
+    (λ c κs. search needs) (λ c. search needs) (λ c. search needs) ask-requires-3 (λ c. search needs)
+    (λ c κs. search needs) (λ c. search needs) (λ c. search needs) (λ c κs. search needs) (λ c. search needs)
+    (λ c. search needs) (λ c. search needs) (λ c κs. search needs) (λ c. search needs) (λ c κs. search needs)
+    (λ c. search needs) (λ c κs. search needs) (λ c. search needs) (λ c. search needs) (λ c κs. search needs)
+    (λ c. search needs) (λ c. search needs) (λ c κs. search needs) returns returns-2 returns-3 returns-4 returns-5
+    returns-6 returns-7 returns-8 returns-9 returns-10 returns-11 returns-12 returns-13 returns-14 returns-15
+    returns-16 returns-17)

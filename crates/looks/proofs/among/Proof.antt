@@ -1,5 +1,5 @@
-use Rattle.looks.proofs.system_at.Statement.{statement}
-use Rattle.looks.proofs.system_at.Tie as tie
+use Rattle.looks.proofs.among.Statement.{statement}
+use Rattle.looks.proofs.among.Tie as tie
 use borrow.Author.Tests.{eq-eqb, ne-eqb}
 
 returns : tie.Need-returns
@@ -14,5 +14,5 @@ returns-3 c = simp (ne-eqb _ _ (c .before .before .if1 .left), ne-eqb _ _ (c .be
 returns-4 : tie.Need-returns-4
 returns-4 c = simp (ne-eqb _ _ (c .before .before .if1 .left), ne-eqb _ _ (c .before .if2 .left), ne-eqb _ _ (c .if3 .left))
 
-pub system-at-spec : {M : Type 1} → statement M
-system-at-spec = tie.close (tie.spec returns returns-2 returns-3 returns-4)
+pub among-spec : {M : Type 1} → statement M
+among-spec = tie.close (tie.spec returns returns-2 returns-3 returns-4)
