@@ -17,20 +17,20 @@ use buffers::names;
 use cases::words::first;
 use lines::said;
 use lines::stream;
-use lines::stream::flushed;
+use lines::stream::Feed;
 
-// The end of a line that was answered; the answers are written out once half a buffer is full. The place where the next one goes.
-fn end_line(said: &mut [u8], at: usize) -> usize {
+// The end of a line that was answered; the answers are written out once half a buffer is full.
+fn end_line(said: &mut [u8], at: usize, feed: Feed) -> Feed {
     let end = said::text(said, at, b"\n");
-    flushed(said, end, 131072)
+    stream::after(feed, stream::flushed(said, end, 131072))
 }
 
-// The answer to one line, at `at`.
+// Answers the line that stands in the input.
 fn answered(
-    line: &[u8],
+    input: &[u8],
+    feed: Feed,
     lent: Lent,
     said: &mut [u8],
-    at: usize,
     state: &mut State,
     transfer: &mut Transfer,
     reply: &mut Reply,
@@ -39,13 +39,14 @@ fn answered(
     room: &mut Room,
     kind: &mut Room,
     text: &mut Room,
-) -> usize {
+) -> Feed {
+    let line = stream::line(input, feed);
     let call = names::export(first(line));
     if call != 0 {
         let a = session::export(
             line,
             said,
-            at,
+            feed.at,
             call,
             lent,
             state,
@@ -54,16 +55,16 @@ fn answered(
             data,
             out,
         );
-        return end_line(said, a);
+        return end_line(said, a, feed);
     }
     let operation = names::on_arrays(first(line));
     if operation != 0 {
         arrays::prepare(line, operation, state, transfer, reply, data, out);
-        let a = said::text(said, at, first(line));
-        return end_line(said, a);
+        let a = said::text(said, feed.at, first(line));
+        return end_line(said, a, feed);
     }
-    let a = codec::answer(line, said, at, room, kind, text);
-    end_line(said, a)
+    let a = codec::answer(line, said, feed.at, room, kind, text);
+    end_line(said, a, feed)
 }
 
 type Input = [u8; 65536];
@@ -92,13 +93,12 @@ fn run(
             return;
         }
         if feed.whole {
-            let line = stream::line(input, feed);
-            lent = arrays::lend(line, lent);
-            let at = answered(
-                line,
+            lent = arrays::lend(stream::line(input, feed), lent);
+            feed = answered(
+                input,
+                feed,
                 lent,
                 said,
-                feed.at,
                 state,
                 transfer,
                 reply,
@@ -108,7 +108,6 @@ fn run(
                 kind,
                 text,
             );
-            feed = stream::after(feed, at);
         }
         turn += 1;
     }

@@ -1,6 +1,4 @@
-// A session's line: an export on the parts of the arrays that are lent, or an operation on the arrays alone.
-use buffers::arrays;
-use buffers::arrays::Data;
+// An export, on the parts of a session's arrays that are lent.
 use buffers::arrays::Lent;
 use buffers::arrays::Reply;
 use buffers::arrays::State;
@@ -8,7 +6,6 @@ use buffers::arrays::Transfer;
 use buffers::told::report;
 use cases::given::given;
 use cases::given::least;
-use cases::words::first;
 use cases::words::third;
 use lines::said;
 use slices::front;

@@ -2,7 +2,7 @@
 ghost use mathlib.Core.Path.{_≡_};
 ghost use mathlib.Core.Bool.{true};
 ghost use Prim.Native.Nat.{_≤_, _<_, _^_};
-ghost use lib.ListN.{length, getD};
+ghost use lib.ListN.{getD};
 ghost use Rattle.heads.specs.Heads.{flag};
 ghost use Rattle.records.specs.Parse.{wholeOf, parseOf, Plain, PlainOf, numberOf};
 use heads::head_len;
