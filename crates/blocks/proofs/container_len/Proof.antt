@@ -8,15 +8,6 @@ returns : tie.Need-returns
 unfolding containerLen
 returns c = simp (lt-ltb _ _ (c .if1 .taken))
 
-shared-slice-read-magic : tie.Need-shared-slice-read-magic
-shared-slice-read-magic c = search needs
-
-shared-slice-read-e1-len : tie.Need-shared-slice-read-e1-len
-shared-slice-read-e1-len c = search needs
-
-e1-len-requires : tie.Need-e1-len-requires
-e1-len-requires c κs = search needs
-
 returns-2 : tie.Need-returns-2
 unfolding containerLen
 returns-2 c = simp (le-ltb _ _ (c .before .before .before .before .if1 .left), eq-eqb _ _ (c .before .before .if2 .taken)) (c .e1-len .ensures)
@@ -32,11 +23,4 @@ returns-4 c = simp (le-ltb _ _ (c .before .before .before .if1 .left), ne-eqb _ 
 pub container-len-spec : {M : Type 1} → statement M
 container-len-spec =
     tie.close
-    (tie.spec
-    returns
-    shared-slice-read-magic
-    shared-slice-read-e1-len
-    e1-len-requires
-    returns-2
-    returns-3
-    returns-4)
+    (tie.spec returns (λ c. search needs) (λ c. search needs) (λ c κs. search needs) returns-2 returns-3 returns-4)

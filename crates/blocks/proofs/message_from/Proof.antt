@@ -13,7 +13,6 @@ use Rattle.tlv.proofs.Blocks.{over-there, body-there}
 use Rattle.blocks.specs.Read.{onBlock, messageFrom}
 use Rattle.blocks.proofs.Blocks.{message-step}
 use native.Mathlib.Omega.{arith}
-use borrow.Author.Needs.{needs}
 
 abbrev Inv-loop : tie.InvT-loop
 Inv-loop image start at₀ at = (at ≤ length image) × (messageFrom image start ≡ messageFrom image at)
@@ -50,9 +49,6 @@ part-block-at-end c = omega arith
 block-at-requires : tie.Need-block-at-requires Inv-loop μ-loop
 block-at-requires c κs = tt
 
-enum-known-n : tie.Need-enum-known-n Inv-loop μ-loop
-enum-known-n c = search needs
-
 add-at : tie.Need-add-at Inv-loop μ-loop
 add-at c =
     let h = over-there (drop (c .before .before .before .before .before .loop .at) (now (c .before .before .before .before .before .before .before .args .image))) (sym (found (c .before .before .before)) ∙ c .before .n .given .1) in
@@ -68,9 +64,6 @@ loop-again c =
     let h = over-there (drop (c .before .before .before .before .before .loop .at) (now (c .before .before .before .before .before .before .before .args .image))) (sym (found (c .before .before .before)) ∙ c .before .n .given .1) in
     (omega (arith, length-drop (c .before .before .before .before .before .loop .at) (now (c .before .before .before .before .before .before .before .args .image))), told (c .before .before .before) (c .before .n .given .1))
 
-enum-known-from : tie.Need-enum-known-from Inv-loop μ-loop
-enum-known-from c = search needs
-
 add-t12 : tie.Need-add-t12 Inv-loop μ-loop
 add-t12 c =
     let h = body-there (drop (c .before .before .before .before .before .loop .at) (now (c .before .before .before .before .before .before .before .args .image))) (sym (found (c .before .before .before)) ∙ c .before .from .given .1) in
@@ -79,14 +72,8 @@ add-t12 c =
 returns : tie.Need-returns Inv-loop μ-loop
 returns c = sym (told (c .before .before .before) (c .before .from .given .1))
 
-enum-told : tie.Need-enum-told Inv-loop μ-loop
-enum-told c = search needs
-
 returns-2 : tie.Need-returns-2 Inv-loop μ-loop
 returns-2 c = sym (told (c .before .before) (c .enum-told .given .1))
-
-enum-told-2 : tie.Need-enum-told-2 Inv-loop μ-loop
-enum-told-2 c = search needs
 
 returns-3 : tie.Need-returns-3 Inv-loop μ-loop
 returns-3 c = sym (told (c .before .before) (c .enum-told2 .given .1))
@@ -94,22 +81,6 @@ returns-3 c = sym (told (c .before .before) (c .enum-told2 .given .1))
 pub message-from-spec : {M : Type 1} → statement M
 message-from-spec =
     tie.close
-    (tie.spec
-    Inv-loop
-    μ-loop
-    loop-holds
-    sub-block-at
-    part-block-at-start
-    part-block-at-end
-    block-at-requires
-    enum-known-n
-    add-at
-    loop-less
-    loop-again
-    enum-known-from
-    add-t12
-    returns
-    enum-told
-    returns-2
-    enum-told-2
-    returns-3)
+    (tie.spec Inv-loop μ-loop loop-holds sub-block-at part-block-at-start part-block-at-end block-at-requires
+    (λ c. search needs) add-at loop-less loop-again (λ c. search needs) add-t12 returns (λ c. search needs) returns-2
+    (λ c. search needs) returns-3)

@@ -10,9 +10,6 @@ use Rattle.blocks.specs.Read.{containerLen, readOf, messageFrom}
 use Rattle.blocks.proofs.Containers.{container-least}
 use native.Mathlib.Omega.{arith}
 
-container-len-requires : tie.Need-container-len-requires
-container-len-requires c κs = search needs
-
 returns : tie.Need-returns
 unfolding readOf
 returns c = simp (eq-eqb _ _ (sym (c .before .container-len .ensures) ∙ c .if1 .taken))
@@ -47,11 +44,4 @@ returns-4 c = let s = now (c .before .before .before .before .before .before .ar
 pub read-spec : {M : Type 1} → statement M
 read-spec =
     tie.close
-    (tie.spec
-    container-len-requires
-    returns
-    returns-2
-    shared-slice-read-if3
-    message-from-requires
-    returns-3
-    returns-4)
+    (tie.spec (λ c κs. search needs) returns returns-2 shared-slice-read-if3 message-from-requires returns-3 returns-4)

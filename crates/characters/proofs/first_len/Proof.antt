@@ -9,37 +9,10 @@ use Rattle.utf8.proofs.Places.{row-at, none-at}
 use Rattle.characters.proofs.first_len.Statement.{statement}
 use Rattle.characters.proofs.first_len.Tie as tie
 
-shared-slice-read-a : tie.Need-shared-slice-read-a
-shared-slice-read-a c = search needs
-
 -- row 1
 returns : tie.Need-returns
 unfolding table fits
 returns c = let p = c .before .before .before in row-at (now (p .args .s)) (p .args .i) (p .pre) (nth table 0 (omega arith)) (omega arith) (omega arith) refl
-
-rest-requires : tie.Need-rest-requires
-rest-requires c κs = search needs
-
-rest-requires-2 : tie.Need-rest-requires-2
-rest-requires-2 c κs = search needs
-
-rest-requires-3 : tie.Need-rest-requires-3
-rest-requires-3 c κs = search needs
-
-rest-requires-4 : tie.Need-rest-requires-4
-rest-requires-4 c κs = search needs
-
-rest-requires-5 : tie.Need-rest-requires-5
-rest-requires-5 c κs = search needs
-
-rest-requires-6 : tie.Need-rest-requires-6
-rest-requires-6 c κs = search needs
-
-rest-requires-7 : tie.Need-rest-requires-7
-rest-requires-7 c κs = search needs
-
-rest-requires-8 : tie.Need-rest-requires-8
-rest-requires-8 c κs = search needs
 
 -- row 3
 returns-2 : tie.Need-returns-2
@@ -94,24 +67,6 @@ returns-11 c = let p = c .before .before .before .before .before .before .before
 pub first-len-spec : {M : Type 1} → statement M
 first-len-spec =
     tie.close
-    (tie.spec
-    shared-slice-read-a
-    returns
-    rest-requires
-    rest-requires-2
-    rest-requires-3
-    rest-requires-4
-    rest-requires-5
-    rest-requires-6
-    rest-requires-7
-    rest-requires-8
-    returns-2
-    returns-3
-    returns-4
-    returns-5
-    returns-6
-    returns-7
-    returns-8
-    returns-9
-    returns-10
-    returns-11)
+    (tie.spec (λ c. search needs) returns (λ c κs. search needs) (λ c κs. search needs) (λ c κs. search needs)
+    (λ c κs. search needs) (λ c κs. search needs) (λ c κs. search needs) (λ c κs. search needs) (λ c κs. search needs)
+    returns-2 returns-3 returns-4 returns-5 returns-6 returns-7 returns-8 returns-9 returns-10 returns-11)

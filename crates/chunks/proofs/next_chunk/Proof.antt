@@ -6,14 +6,8 @@ use Rattle.wipe.proofs.Scrubs.{chunk-from}
 returns : tie.Need-returns
 returns c = rw (c .if1 .taken)
 
-sub-t4 : tie.Need-sub-t4
-sub-t4 c = search needs
-
-add-t5 : tie.Need-add-t5
-add-t5 c = search needs
-
 returns-2 : tie.Need-returns-2
 returns-2 c = chunk-from _ _ _ (c .before .if1 .left)
 
 pub next-chunk-spec : {M : Type 1} → statement M
-next-chunk-spec = tie.close (tie.spec returns sub-t4 add-t5 returns-2)
+next-chunk-spec = tie.close (tie.spec returns (λ c. search needs) (λ c. search needs) returns-2)

@@ -6,14 +6,8 @@ use denote.Ref.{now}
 use Rattle.wipe.proofs.Scrubs.{reread-clean, reread-dirty}
 use native.Mathlib.Omega.{arith}
 
-size-requires : tie.Need-size-requires
-size-requires c κs = search needs
-
 all-zero-requires : tie.Need-all-zero-requires
 all-zero-requires c κs = omega (arith, c .size .ensures)
-
-next-chunk-requires : tie.Need-next-chunk-requires
-next-chunk-requires c κs = search needs
 
 returns : tie.Need-returns
 returns c = c .next-chunk .ensures ∙ reread-clean (c .before .before .before .before .before .before .args .p) _ (now (c .before .before .before .before .before .before .args .reply)) _ _ (c .before .before .before .before .if1 .taken) (c .before .before .before .size .ensures) (c .before .before .all-zero .ensures) (c .before .if2 .taken)
@@ -26,5 +20,4 @@ returns-3 c = simp (c .if1 .left)
 
 pub reread-step-spec : {M : Type 1} → statement M
 reread-step-spec =
-    tie.close
-    (tie.spec size-requires all-zero-requires next-chunk-requires returns returns-2 returns-3)
+    tie.close (tie.spec (λ c κs. search needs) all-zero-requires (λ c κs. search needs) returns returns-2 returns-3)

@@ -3,15 +3,6 @@ use Rattle.clearing.proofs.wipe_turn.Statement.{statement}
 use Rattle.clearing.proofs.wipe_turn.Tie as tie
 use Rattle.protocol.specs.Mark.{none}
 
-enum-known-x : tie.Need-enum-known-x
-enum-known-x c = search needs
-
-enum-told : tie.Need-enum-told
-enum-told c = search needs
-
-enum-known-x-2 : tie.Need-enum-known-x-2
-enum-known-x-2 c = search needs
-
 returns : tie.Need-returns
 unfolding none
 returns c = rw (c .before .x .given .1)
@@ -26,4 +17,4 @@ returns-3 c = rw (c .before .x2 .given .1)
 
 pub wipe-turn-spec : {M : Type 1} → statement M
 wipe-turn-spec =
-    tie.close (tie.spec enum-known-x enum-told enum-known-x-2 returns returns-2 returns-3)
+    tie.close (tie.spec (λ c. search needs) (λ c. search needs) (λ c. search needs) returns returns-2 returns-3)

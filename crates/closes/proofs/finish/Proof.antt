@@ -10,22 +10,10 @@ use Rattle.layout.specs.declared.refusal.Refusal.the-variants.{TooLong}
 use Rattle.judging.specs.declared.Built.the-variants.{Refused}
 use Rattle.closes.specs.Closes.{finishAnswer, finishAfter}
 
-sat-add-requires : tie.Need-sat-add-requires
-sat-add-requires c κs = search needs
-
 returns : tie.Need-returns
 unfolding finishAnswer finishAfter
 returns c = let h = c .before .if1 .taken in
     (simp (le-leb _ _ h) (ap (λ (n : ℕ). Refused (TooLong n (length (now (c .before .before .before .args .out))))) (c .sat-add .ensures)), simp (le-leb _ _ h))
-
-slice-write-out : tie.Need-slice-write-out
-slice-write-out c = search needs
-
-add-t3 : tie.Need-add-t3
-add-t3 c = search needs
-
-same-length : tie.Need-same-length
-same-length c = search needs
 
 returns-2 : tie.Need-returns-2
 unfolding finishAnswer finishAfter
@@ -34,4 +22,5 @@ returns-2 c = let h = c .if1 .left in
 
 pub finish-spec : {M : Type 1} → statement M
 finish-spec =
-    tie.close (tie.spec sat-add-requires returns slice-write-out add-t3 same-length returns-2)
+    tie.close
+    (tie.spec (λ c κs. search needs) returns (λ c. search needs) (λ c. search needs) (λ c. search needs) returns-2)

@@ -6,29 +6,11 @@ use Rattle.writing.proofs.Writes.{check-law, parts-even}
 use Rattle.scan.proofs.Cutting.{part-length}
 use native.Mathlib.Omega.{arith}
 
-chunk-len-requires : tie.Need-chunk-len-requires
-chunk-len-requires c κs = search needs
-
 slice-aggregate-same : tie.Need-slice-aggregate-same
 slice-aggregate-same c = part-length _ _ (omega (arith, c .before .chunk-len .ensures))
 
-add-same : tie.Need-add-same
-add-same c = search needs
-
-sub-same : tie.Need-sub-same
-sub-same c = search needs
-
-part-same-start : tie.Need-part-same-start
-part-same-start c = search needs
-
-part-same-end : tie.Need-part-same-end
-part-same-end c = search needs
-
 same-requires : tie.Need-same-requires
 same-requires c κs = parts-even (now (c .before .before .before .before .before .before .args .reply)) (now (c .before .before .before .before .before .before .args .lent)) (c .before .before .before .before .before .before .args .c .done) (c .before .before .chunk-len .result) (omega (arith, c .before .before .chunk-len .ensures)) (omega (arith, c .before .before .chunk-len .ensures))
-
-compared-requires : tie.Need-compared-requires
-compared-requires c κs = search needs
 
 returns : tie.Need-returns
 returns c = check-law (c .before .before .before .before .before .before .before .before .before .args .c) _ (now (c .before .before .before .before .before .before .before .before .before .args .reply)) (now (c .before .before .before .before .before .before .before .before .before .args .lent)) _ _ _ (c .before .before .before .before .before .before .if1 .taken) (c .before .before .before .before .before .chunk-len .ensures) (c .before .before .same .ensures) (c .compared .ensures)
@@ -39,14 +21,5 @@ returns-2 c = simp (c .if1 .left)
 pub check-step-spec : {M : Type 1} → statement M
 check-step-spec =
     tie.close
-    (tie.spec
-    chunk-len-requires
-    slice-aggregate-same
-    add-same
-    sub-same
-    part-same-start
-    part-same-end
-    same-requires
-    compared-requires
-    returns
-    returns-2)
+    (tie.spec (λ c κs. search needs) slice-aggregate-same (λ c. search needs) (λ c. search needs) (λ c. search needs)
+    (λ c. search needs) same-requires (λ c κs. search needs) returns returns-2)

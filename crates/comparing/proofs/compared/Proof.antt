@@ -9,14 +9,8 @@ returns c = rw (c .before .if1 .taken, c .if2 .taken)
 returns-2 : tie.Need-returns-2
 returns-2 c = rw (c .before .if1 .taken, c .if2 .left)
 
-sub-t7 : tie.Need-sub-t7
-sub-t7 c = search needs
-
-add-t8 : tie.Need-add-t8
-add-t8 c = search needs
-
 returns-3 : tie.Need-returns-3
 returns-3 c = check-from _ _ _ _ (c .before .if1 .left)
 
 pub compared-spec : {M : Type 1} → statement M
-compared-spec = tie.close (tie.spec returns returns-2 sub-t7 add-t8 returns-3)
+compared-spec = tie.close (tie.spec returns returns-2 (λ c. search needs) (λ c. search needs) returns-3)

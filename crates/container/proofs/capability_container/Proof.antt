@@ -9,15 +9,9 @@ returns : tie.Need-returns
 unfolding containerAnswer
 returns c = simp (lt-ltb _ _ (c .if1 .taken))
 
-cast-high : tie.Need-cast-high
-cast-high c = search needs
-
-cast-low : tie.Need-cast-low
-cast-low c = search needs
-
 returns-2 : tie.Need-returns-2
 unfolding containerAnswer container be
 returns-2 c = simp (le-ltb _ _ (c .if1 .left))
 
 pub capability-container-spec : {M : Type 1} → statement M
-capability-container-spec = tie.close (tie.spec returns cast-high cast-low returns-2)
+capability-container-spec = tie.close (tie.spec returns (λ c. search needs) (λ c. search needs) returns-2)

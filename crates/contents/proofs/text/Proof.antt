@@ -4,12 +4,6 @@ use Rattle.contents.proofs.text.Tie as tie
 use mathlib.Core.Path.{sym, _∙_}
 use Rattle.contents.specs.Contents.{textOf}
 
-is-requires : tie.Need-is-requires
-is-requires c κs = search needs
-
-text-at-requires : tie.Need-text-at-requires
-text-at-requires c κs = search needs
-
 returns : tie.Need-returns
 unfolding textOf
 returns c = simp (sym (c .before .before .is .ensures) ∙ c .before .if1 .taken) (c .text-at .ensures)
@@ -19,4 +13,4 @@ unfolding textOf
 returns-2 c = simp (sym (c .before .is .ensures) ∙ c .if1 .left)
 
 pub text-spec : {M : Type 1} → statement M
-text-spec = tie.close (tie.spec is-requires text-at-requires returns returns-2)
+text-spec = tie.close (tie.spec (λ c κs. search needs) (λ c κs. search needs) returns returns-2)

@@ -10,9 +10,6 @@ use Rattle.contents.specs.Contents.{textIn, payloadAt}
 use Rattle.contents.proofs.Cases.{text-empty, payload-there}
 use native.Mathlib.Omega.{arith}
 
-payload-requires : tie.Need-payload-requires
-payload-requires c κs = search needs
-
 returns : tie.Need-returns
 returns c = text-empty _ _ (sym (ap length (c .before .payload .ensures)) ∙ c .if1 .taken)
 
@@ -30,5 +27,4 @@ returns-2 c = c .text-in .ensures ∙ ap (λ (p : List ℕ). textIn p (payloadAt
 
 pub text-at-spec : {M : Type 1} → statement M
 text-at-spec =
-    tie.close
-    (tie.spec payload-requires returns add-text-in add-text-in-2 text-in-requires returns-2)
+    tie.close (tie.spec (λ c κs. search needs) returns add-text-in add-text-in-2 text-in-requires returns-2)

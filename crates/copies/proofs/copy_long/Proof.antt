@@ -37,9 +37,6 @@ add-copy-to c = omega arith
 block-at-requires : tie.Need-block-at-requires Inv-loop μ-loop
 block-at-requires c κs = omega arith
 
-slice-aggregate-copy-to : tie.Need-slice-aggregate-copy-to Inv-loop μ-loop
-slice-aggregate-copy-to c = search needs
-
 copy-to-requires : tie.Need-copy-to-requires Inv-loop μ-loop
 copy-to-requires c κs =
     let l = c .before .before .before .before in
@@ -94,22 +91,6 @@ same-length c = ap length (returns c .bytes) ∙ splice-length _ _ _ (c .before 
 pub copy-long-spec : {M : Type 1} → statement M
 copy-long-spec =
     tie.close
-    (tie.spec
-    Inv-loop
-    μ-loop
-    loop-holds
-    sub-loop
-    add-copy-to
-    block-at-requires
-    slice-aggregate-copy-to
-    copy-to-requires
-    add-i
-    loop-less
-    loop-again
-    add-copy-to-2
-    sub-copy-to
-    part-copy-to-start
-    part-copy-to-end
-    copy-to-requires-2
-    same-length
-    returns)
+    (tie.spec Inv-loop μ-loop loop-holds sub-loop add-copy-to block-at-requires (λ c. search needs) copy-to-requires
+    add-i loop-less loop-again add-copy-to-2 sub-copy-to part-copy-to-start part-copy-to-end copy-to-requires-2
+    same-length returns)

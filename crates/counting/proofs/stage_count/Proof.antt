@@ -4,9 +4,6 @@ use Rattle.counting.proofs.stage_count.Tie as tie
 use mathlib.Core.Bool.{true, false}
 use Rattle.counting.proofs.Counts.{count-of}
 
-stage-row-requires : tie.Need-stage-row-requires
-stage-row-requires c κs = search needs
-
 returns : tie.Need-returns
 returns c = count-of (c .before .before .args .st) (c .before .before .args .ack) (c .before .stage-row .result) true (c .before .stage-row .ensures) (c .if1 .taken)
 
@@ -14,4 +11,4 @@ returns-2 : tie.Need-returns-2
 returns-2 c = count-of (c .before .before .args .st) (c .before .before .args .ack) (c .before .stage-row .result) false (c .before .stage-row .ensures) (c .if1 .left)
 
 pub stage-count-spec : {M : Type 1} → statement M
-stage-count-spec = tie.close (tie.spec stage-row-requires returns returns-2)
+stage-count-spec = tie.close (tie.spec (λ c κs. search needs) returns returns-2)

@@ -3,24 +3,6 @@ use Rattle.counting.proofs.stage_row.Statement.{statement}
 use Rattle.counting.proofs.stage_row.Tie as tie
 use Rattle.counting.proofs.Counts.{others}
 
-enum-known-st : tie.Need-enum-known-st
-enum-known-st c = search needs
-
-write-row-requires : tie.Need-write-row-requires
-write-row-requires c κs = search needs
-
-enum-known-st-2 : tie.Need-enum-known-st-2
-enum-known-st-2 c = search needs
-
-scrub-row-requires : tie.Need-scrub-row-requires
-scrub-row-requires c κs = search needs
-
-enum-known-st-3 : tie.Need-enum-known-st-3
-enum-known-st-3 c = search needs
-
-scrub-row-requires-2 : tie.Need-scrub-row-requires-2
-scrub-row-requires-2 c κs = search needs
-
 returns : tie.Need-returns
 returns c = λ n. rw (c .before .before .st .given .1) (c .write-row .ensures n)
 
@@ -36,14 +18,5 @@ returns-4 c = others (c .before .args .st) (c .match .keys4)
 pub stage-row-spec : {M : Type 1} → statement M
 stage-row-spec =
     tie.close
-    (tie.spec
-    enum-known-st
-    write-row-requires
-    enum-known-st-2
-    scrub-row-requires
-    enum-known-st-3
-    scrub-row-requires-2
-    returns
-    returns-2
-    returns-3
-    returns-4)
+    (tie.spec (λ c. search needs) (λ c κs. search needs) (λ c. search needs) (λ c κs. search needs)
+    (λ c. search needs) (λ c κs. search needs) returns returns-2 returns-3 returns-4)

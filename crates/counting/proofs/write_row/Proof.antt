@@ -3,15 +3,6 @@ use Rattle.counting.proofs.write_row.Statement.{statement}
 use Rattle.counting.proofs.write_row.Tie as tie
 use Rattle.counting.proofs.Counts.{wait-row}
 
-enum-told : tie.Need-enum-told
-enum-told c = search needs
-
-enum-told-2 : tie.Need-enum-told-2
-enum-told-2 c = search needs
-
-enum-told-3 : tie.Need-enum-told-3
-enum-told-3 c = search needs
-
 returns : tie.Need-returns
 returns c = λ n. rw (c .enum-told .given .1)
 
@@ -22,4 +13,5 @@ returns-3 : tie.Need-returns-3
 returns-3 c = λ n. rw (c .enum-told3 .given .1)
 
 pub write-row-spec : {M : Type 1} → statement M
-write-row-spec = tie.close (tie.spec enum-told enum-told-2 enum-told-3 returns returns-2 returns-3)
+write-row-spec =
+    tie.close (tie.spec (λ c. search needs) (λ c. search needs) (λ c. search needs) returns returns-2 returns-3)

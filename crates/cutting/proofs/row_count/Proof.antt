@@ -8,15 +8,9 @@ returns : tie.Need-returns
 unfolding rowCount
 returns c = rw (eq-eqb _ _ (c .if1 .taken))
 
-add-result : tie.Need-add-result
-add-result c = search needs
-
-add-result-2 : tie.Need-add-result-2
-add-result-2 c = search needs
-
 returns-2 : tie.Need-returns-2
 unfolding rowCount
 returns-2 c = rw (ne-eqb _ _ (c .if1 .left))
 
 pub row-count-spec : {M : Type 1} → statement M
-row-count-spec = tie.close (tie.spec returns add-result add-result-2 returns-2)
+row-count-spec = tie.close (tie.spec returns (λ c. search needs) (λ c. search needs) returns-2)

@@ -4,9 +4,6 @@ use Rattle.cutting.proofs.row_len.Tie as tie
 use Rattle.scan.specs.Rows.{rowLen}
 use native.Mathlib.Omega.{arith}
 
-sub-room : tie.Need-sub-room
-sub-room c = search needs
-
 returns : tie.Need-returns
 unfolding rowLen
 returns c = omega arith
@@ -16,4 +13,4 @@ unfolding rowLen
 returns-2 c = omega arith
 
 pub row-len-spec : {M : Type 1} → statement M
-row-len-spec = tie.close (tie.spec sub-room returns returns-2)
+row-len-spec = tie.close (tie.spec (λ c. search needs) returns returns-2)

@@ -4,17 +4,8 @@ use Rattle.digits.proofs.put_number.Tie as tie
 use Rattle.slices.proofs.Splice.{chain}
 use native.Mathlib.Omega.{arith}
 
-put-decimal-requires : tie.Need-put-decimal-requires
-put-decimal-requires c κs = search needs
-
-put-requires : tie.Need-put-requires
-put-requires c κs = search needs
-
-same-length : tie.Need-same-length
-same-length c = search needs
-
 returns : tie.Need-returns
 returns c = chain (omega arith) (c .before .before .before .before .before .before .put-decimal .ensures) (c .before .before .put .ensures)
 
 pub put-number-spec : {M : Type 1} → statement M
-put-number-spec = tie.close (tie.spec put-decimal-requires put-requires same-length returns)
+put-number-spec = tie.close (tie.spec (λ c κs. search needs) (λ c κs. search needs) (λ c. search needs) returns)

@@ -11,14 +11,8 @@ use Rattle.digits.proofs.Texts.{type-empty, type-some, hex-length}
 use Rattle.digits.proofs.Writes.{wrote-as}
 use native.Mathlib.Omega.{arith}
 
-slice-aggregate-copy-to : tie.Need-slice-aggregate-copy-to
-slice-aggregate-copy-to c = search needs
-
 copy-to-requires : tie.Need-copy-to-requires
 copy-to-requires c κs = let k = now (c .before .before .before .before .before .args .kind) in omega (arith, ap length (type-empty k (c .before .before .if1 .taken)))
-
-same-length : tie.Need-same-length
-same-length c = search needs
 
 returns : tie.Need-returns
 returns c = wrote-as (ap (λ (l : List ℕ). l ++ (0x20 ∷ [])) (type-empty _ (c .before .before .before .before .before .if1 .taken))) (c .before .before .copy-to .ensures)
@@ -29,9 +23,6 @@ put-hex-requires c κs = let k = now (c .before .before .before .before .args .k
 put-requires : tie.Need-put-requires
 put-requires c κs = let k = now (c .before .before .before .before .before .before .before .before .args .kind) in omega (arith, c .before .before .before .put-hex .ensures .place, ap length (type-some k (c .before .before .before .before .before .if1 .left)))
 
-same-length-2 : tie.Need-same-length-2
-same-length-2 c = search needs
-
 returns-2 : tie.Need-returns-2
 returns-2 c = let k = now (c .before .before .before .before .before .before .before .before .before .before .before .args .kind) in
     wrote-as (ap (λ (l : List ℕ). l ++ (0x20 ∷ [])) (type-some k (c .before .before .before .before .before .before .before .before .if1 .left))) (chain (omega (arith, c .before .before .before .before .before .before .put-hex .ensures .place, ap length (type-some k (c .before .before .before .before .before .before .before .before .if1 .left)))) (c .before .before .before .before .before .before .put-hex .ensures) (c .before .before .put .ensures))
@@ -39,12 +30,5 @@ returns-2 c = let k = now (c .before .before .before .before .before .before .be
 pub put-type-spec : {M : Type 1} → statement M
 put-type-spec =
     tie.close
-    (tie.spec
-    slice-aggregate-copy-to
-    copy-to-requires
-    same-length
-    returns
-    put-hex-requires
-    put-requires
-    same-length-2
-    returns-2)
+    (tie.spec (λ c. search needs) copy-to-requires (λ c. search needs) returns put-hex-requires put-requires
+    (λ c. search needs) returns-2)

@@ -29,17 +29,8 @@ returns-2 c =
     let v : emptyVerdict (length (now (a .out))) (a .area) ≡ Not AreaTooBig = simp (le-ltb _ _ (c .before .if1 .left), lt-ltb _ _ (c .if2 .taken)) in
     refused _ (emptyImage (a .area)) v
 
-put-container-requires : tie.Need-put-container-requires
-put-container-requires c κs = search needs
-
-slice-aggregate-copy-to : tie.Need-slice-aggregate-copy-to
-slice-aggregate-copy-to c = search needs
-
 copy-to-requires : tie.Need-copy-to-requires
 copy-to-requires c κs = omega (arith, container-length (c .before .before .before .before .before .before .before .before .before .args .area), c .before .before .before .before .put-container)
-
-same-length : tie.Need-same-length
-same-length c = search needs
 
 returns-3 : tie.Need-returns-3
 unfolding imageOf container message messageHead blockLength be
@@ -51,11 +42,5 @@ returns-3 c = let a = c .before .before .before .before .before .before .before 
 pub empty-image-spec : {M : Type 1} → statement M
 empty-image-spec =
     tie.close
-    (tie.spec
-    returns
-    returns-2
-    put-container-requires
-    slice-aggregate-copy-to
-    copy-to-requires
-    same-length
+    (tie.spec returns returns-2 (λ c κs. search needs) (λ c. search needs) copy-to-requires (λ c. search needs)
     returns-3)

@@ -5,21 +5,6 @@ use mathlib.Core.Path.{ap}
 use Rattle.protocol.specs.Mark.{none}
 use Rattle.stages.specs.declared.stage.Turn.the-variants.{Over}
 
-enum-known-x : tie.Need-enum-known-x
-enum-known-x c = search needs
-
-enum-told : tie.Need-enum-told
-enum-told c = search needs
-
-first-answer-requires : tie.Need-first-answer-requires
-first-answer-requires c κs = search needs
-
-enum-known-x-2 : tie.Need-enum-known-x-2
-enum-known-x-2 c = search needs
-
-first-answer-requires-2 : tie.Need-first-answer-requires-2
-first-answer-requires-2 c κs = search needs
-
 returns : tie.Need-returns
 unfolding none
 returns c = rw (c .before .x .given .1)
@@ -35,12 +20,5 @@ returns-3 c = rw (c .before .before .x2 .given .1) (ap (Over (c .before .before 
 pub finish-turn-spec : {M : Type 1} → statement M
 finish-turn-spec =
     tie.close
-    (tie.spec
-    enum-known-x
-    enum-told
-    first-answer-requires
-    enum-known-x-2
-    first-answer-requires-2
-    returns
-    returns-2
-    returns-3)
+    (tie.spec (λ c. search needs) (λ c. search needs) (λ c κs. search needs) (λ c. search needs)
+    (λ c κs. search needs) returns returns-2 returns-3)

@@ -4,81 +4,6 @@ use Rattle.flattening.proofs.Others.{no-code}
 use Rattle.flattening.proofs.stage_code.Statement.{statement}
 use Rattle.flattening.proofs.stage_code.Tie as tie
 
-enum-known-st : tie.Need-enum-known-st
-enum-known-st c = search needs
-
-setup-code-requires : tie.Need-setup-code-requires
-setup-code-requires c κs = search needs
-
-enum-known-st-2 : tie.Need-enum-known-st-2
-enum-known-st-2 c = search needs
-
-wait-code-requires : tie.Need-wait-code-requires
-wait-code-requires c κs = search needs
-
-enum-known-st-3 : tie.Need-enum-known-st-3
-enum-known-st-3 c = search needs
-
-write-code-requires : tie.Need-write-code-requires
-write-code-requires c κs = search needs
-
-enum-known-st-4 : tie.Need-enum-known-st-4
-enum-known-st-4 c = search needs
-
-switch-code-requires : tie.Need-switch-code-requires
-switch-code-requires c κs = search needs
-
-enum-known-st-5 : tie.Need-enum-known-st-5
-enum-known-st-5 c = search needs
-
-switch-code-requires-2 : tie.Need-switch-code-requires-2
-switch-code-requires-2 c κs = search needs
-
-enum-known-st-6 : tie.Need-enum-known-st-6
-enum-known-st-6 c = search needs
-
-scrub-code-requires : tie.Need-scrub-code-requires
-scrub-code-requires c κs = search needs
-
-enum-known-st-7 : tie.Need-enum-known-st-7
-enum-known-st-7 c = search needs
-
-setup-code-requires-2 : tie.Need-setup-code-requires-2
-setup-code-requires-2 c κs = search needs
-
-enum-known-st-8 : tie.Need-enum-known-st-8
-enum-known-st-8 c = search needs
-
-switch-code-requires-3 : tie.Need-switch-code-requires-3
-switch-code-requires-3 c κs = search needs
-
-enum-known-st-9 : tie.Need-enum-known-st-9
-enum-known-st-9 c = search needs
-
-switch-code-requires-4 : tie.Need-switch-code-requires-4
-switch-code-requires-4 c κs = search needs
-
-enum-known-st-10 : tie.Need-enum-known-st-10
-enum-known-st-10 c = search needs
-
-bit-requires : tie.Need-bit-requires
-bit-requires c κs = search needs
-
-code-requires : tie.Need-code-requires
-code-requires c κs = search needs
-
-enum-known-st-11 : tie.Need-enum-known-st-11
-enum-known-st-11 c = search needs
-
-bit-requires-2 : tie.Need-bit-requires-2
-bit-requires-2 c κs = search needs
-
-scrub-code-requires-2 : tie.Need-scrub-code-requires-2
-scrub-code-requires-2 c κs = search needs
-
-code-requires-2 : tie.Need-code-requires-2
-code-requires-2 c κs = search needs
-
 returns : tie.Need-returns
 returns c = rw (c .before .before .st .given .1, ← (c .setup-code .ensures))
 
@@ -118,41 +43,10 @@ returns-12 c = c .code2 .ensures ∙ no-code (c .before .before .args .st) (c .b
 pub stage-code-spec : {M : Type 1} → statement M
 stage-code-spec =
     tie.close
-    (tie.spec
-    enum-known-st
-    setup-code-requires
-    enum-known-st-2
-    wait-code-requires
-    enum-known-st-3
-    write-code-requires
-    enum-known-st-4
-    switch-code-requires
-    enum-known-st-5
-    switch-code-requires-2
-    enum-known-st-6
-    scrub-code-requires
-    enum-known-st-7
-    setup-code-requires-2
-    enum-known-st-8
-    switch-code-requires-3
-    enum-known-st-9
-    switch-code-requires-4
-    enum-known-st-10
-    bit-requires
-    code-requires
-    enum-known-st-11
-    bit-requires-2
-    scrub-code-requires-2
-    code-requires-2
-    returns
-    returns-2
-    returns-3
-    returns-4
-    returns-5
-    returns-6
-    returns-7
-    returns-8
-    returns-9
-    returns-10
-    returns-11
-    returns-12)
+    (tie.spec (λ c. search needs) (λ c κs. search needs) (λ c. search needs) (λ c κs. search needs)
+    (λ c. search needs) (λ c κs. search needs) (λ c. search needs) (λ c κs. search needs) (λ c. search needs)
+    (λ c κs. search needs) (λ c. search needs) (λ c κs. search needs) (λ c. search needs) (λ c κs. search needs)
+    (λ c. search needs) (λ c κs. search needs) (λ c. search needs) (λ c κs. search needs) (λ c. search needs)
+    (λ c κs. search needs) (λ c κs. search needs) (λ c. search needs) (λ c κs. search needs) (λ c κs. search needs)
+    (λ c κs. search needs) returns returns-2 returns-3 returns-4 returns-5 returns-6 returns-7 returns-8 returns-9
+    returns-10 returns-11 returns-12)

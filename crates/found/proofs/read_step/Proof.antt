@@ -8,26 +8,8 @@ use Rattle.wipe.proofs.Scrubs.{read-law}
 use Rattle.scan.proofs.Cutting.{part-length}
 use native.Mathlib.Omega.{arith}
 
-size-requires : tie.Need-size-requires
-size-requires c κs = search needs
-
 slice-aggregate-got : tie.Need-slice-aggregate-got
 slice-aggregate-got c = part-length _ _ (omega (arith, c .before .size .ensures))
-
-blank-row-requires : tie.Need-blank-row-requires
-blank-row-requires c κs = search needs
-
-blank-row-requires-2 : tie.Need-blank-row-requires-2
-blank-row-requires-2 c κs = search needs
-
-blank-row-requires-3 : tie.Need-blank-row-requires-3
-blank-row-requires-3 c κs = search needs
-
-blank-row-requires-4 : tie.Need-blank-row-requires-4
-blank-row-requires-4 c κs = search needs
-
-rows-found-requires : tie.Need-rows-found-requires
-rows-found-requires c κs = search needs
 
 returns : tie.Need-returns
 returns c = read-law (c .before .before .before .before .before .before .before .before .before .args .p) _ (now (c .before .before .before .before .before .before .before .before .before .args .reply)) _ _ _ _ _ _ (c .before .before .before .before .before .before .before .if1 .taken) (c .before .before .before .before .before .before .size .ensures) (ap not (c .before .before .before .before .blank-row .ensures)) (ap not (c .before .before .before .blank-row2 .ensures)) (ap not (c .before .before .blank-row3 .ensures)) (ap not (c .before .blank-row4 .ensures)) (c .rows-found .ensures)
@@ -38,13 +20,5 @@ returns-2 c = simp (c .if1 .left)
 pub read-step-spec : {M : Type 1} → statement M
 read-step-spec =
     tie.close
-    (tie.spec
-    size-requires
-    slice-aggregate-got
-    blank-row-requires
-    blank-row-requires-2
-    blank-row-requires-3
-    blank-row-requires-4
-    rows-found-requires
-    returns
-    returns-2)
+    (tie.spec (λ c κs. search needs) slice-aggregate-got (λ c κs. search needs) (λ c κs. search needs)
+    (λ c κs. search needs) (λ c κs. search needs) (λ c κs. search needs) returns returns-2)

@@ -8,22 +8,12 @@ use Rattle.wipe.proofs.Scrubs.{some-found, none-found}
 returns : tie.Need-returns
 returns c = simp (c .if1 .taken)
 
-add-next-row : tie.Need-add-next-row
-add-next-row c = search needs
-
-next-row-requires : tie.Need-next-row-requires
-next-row-requires c κs = search needs
-
 returns-2 : tie.Need-returns-2
 returns-2 c = ap More (c .next-row .ensures) ∙ some-found (c .before .before .before .args .p) (c .before .before .before .args .a) (c .before .before .before .args .b) (c .before .before .before .args .c) (c .before .before .before .args .d) (c .before .before .if1 .left) (c .before .if2 .taken)
-
-next-chunk-requires : tie.Need-next-chunk-requires
-next-chunk-requires c κs = search needs
 
 returns-3 : tie.Need-returns-3
 returns-3 c = c .next-chunk .ensures ∙ none-found (c .before .before .before .args .p) (c .before .before .before .args .a) (c .before .before .before .args .b) (c .before .before .before .args .c) (c .before .before .before .args .d) (c .before .before .if1 .left) (c .before .if2 .left)
 
 pub rows-found-spec : {M : Type 1} → statement M
 rows-found-spec =
-    tie.close
-    (tie.spec returns add-next-row next-row-requires returns-2 next-chunk-requires returns-3)
+    tie.close (tie.spec returns (λ c. search needs) (λ c κs. search needs) returns-2 (λ c κs. search needs) returns-3)

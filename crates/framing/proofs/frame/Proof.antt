@@ -10,59 +10,14 @@ use lib.ListN.{length}
 use Rattle.telling.specs.Step.{AskFits, padded}
 use native.Mathlib.Omega.{arith}
 
-enum-told : tie.Need-enum-told
-enum-told c = search needs
-
-head-requires : tie.Need-head-requires
-head-requires c κs = search needs
-
-enum-known-a : tie.Need-enum-known-a
-enum-known-a c = search needs
-
-head-requires-2 : tie.Need-head-requires-2
-head-requires-2 c κs = search needs
-
-enum-told-2 : tie.Need-enum-told-2
-enum-told-2 c = search needs
-
-password-requires : tie.Need-password-requires
-password-requires c κs = search needs
-
-enum-known-a-2 : tie.Need-enum-known-a-2
-enum-known-a-2 c = search needs
-
-head-requires-3 : tie.Need-head-requires-3
-head-requires-3 c κs = search needs
-
-enum-known-a-3 : tie.Need-enum-known-a-3
-enum-known-a-3 c = search needs
-
 add-row : tie.Need-add-row
 add-row c = let h = subst (AskFits (length (now (c .before .before .before .before .args .lent)))) (c .before .a3 .given .1) (c .before .before .before .before .pre) in omega (arith, h .0, h .1)
-
-sub-row : tie.Need-sub-row
-sub-row c = search needs
-
-part-row-start : tie.Need-part-row-start
-part-row-start c = search needs
 
 part-row-end : tie.Need-part-row-end
 part-row-end c = let h = subst (AskFits (length (now (c .before .before .before .before .args .lent)))) (c .before .a3 .given .1) (c .before .before .before .before .pre) in omega (arith, h .0, h .1)
 
 row-requires : tie.Need-row-requires
 row-requires c κs = let h = subst (AskFits (length (now (c .before .before .before .before .before .args .lent)))) (c .before .before .a3 .given .1) (c .before .before .before .before .before .pre) in part-short (now (c .before .before .before .before .before .args .lent)) _ _ (h .1)
-
-enum-known-a-4 : tie.Need-enum-known-a-4
-enum-known-a-4 c = search needs
-
-head-requires-4 : tie.Need-head-requires-4
-head-requires-4 c κs = search needs
-
-enum-told-3 : tie.Need-enum-told-3
-enum-told-3 c = search needs
-
-head-requires-5 : tie.Need-head-requires-5
-head-requires-5 c κs = search needs
 
 returns : tie.Need-returns
 returns c = rw (c .before .enum-told .given .1) (c .head .ensures)
@@ -88,29 +43,7 @@ returns-7 c = rw (c .before .enum-told3 .given .1) (c .head5 .ensures)
 pub frame-spec : {M : Type 1} → statement M
 frame-spec =
     tie.close
-    (tie.spec
-    enum-told
-    head-requires
-    enum-known-a
-    head-requires-2
-    enum-told-2
-    password-requires
-    enum-known-a-2
-    head-requires-3
-    enum-known-a-3
-    add-row
-    sub-row
-    part-row-start
-    part-row-end
-    row-requires
-    enum-known-a-4
-    head-requires-4
-    enum-told-3
-    head-requires-5
-    returns
-    returns-2
-    returns-3
-    returns-4
-    returns-5
-    returns-6
-    returns-7)
+    (tie.spec (λ c. search needs) (λ c κs. search needs) (λ c. search needs) (λ c κs. search needs)
+    (λ c. search needs) (λ c κs. search needs) (λ c. search needs) (λ c κs. search needs) (λ c. search needs) add-row
+    (λ c. search needs) (λ c. search needs) part-row-end row-requires (λ c. search needs) (λ c κs. search needs)
+    (λ c. search needs) (λ c κs. search needs) returns returns-2 returns-3 returns-4 returns-5 returns-6 returns-7)

@@ -6,17 +6,8 @@ use denote.Ref.{now}
 use Rattle.slices.specs.Bytes.{splice}
 use Rattle.telling.proofs.Frames.{row-framed}
 
-head-requires : tie.Need-head-requires
-head-requires c κs = search needs
-
-slice-aggregate-copy-to : tie.Need-slice-aggregate-copy-to
-slice-aggregate-copy-to c = search needs
-
-copy-to-requires : tie.Need-copy-to-requires
-copy-to-requires c κs = search needs
-
 returns : tie.Need-returns
 returns c = c .before .copy-to .ensures .bytes ∙ ap (λ d. splice d 2 (now (c .before .before .before .before .before .args .piece))) (c .before .before .before .head .ensures) ∙ row-framed (c .before .before .before .before .before .args .at) (now (c .before .before .before .before .before .args .piece)) (c .before .before .before .before .before .pre)
 
 pub row-spec : {M : Type 1} → statement M
-row-spec = tie.close (tie.spec head-requires slice-aggregate-copy-to copy-to-requires returns)
+row-spec = tie.close (tie.spec (λ c κs. search needs) (λ c. search needs) (λ c κs. search needs) returns)

@@ -9,18 +9,12 @@ use native.Mathlib.Omega.{arith}
 shared-slice-read-wide : tie.Need-shared-slice-read-wide
 shared-slice-read-wide c = let h = head-at (c .before .before .before .before .args .h) (eq-eqb _ _ (c .before .if2 .taken)) (eq-eqb _ _ (c .before .before .if1 .taken)) in omega arith
 
-wide-requires : tie.Need-wide-requires
-wide-requires c κs = search needs
-
 returns : tie.Need-returns
 unfolding idLen
 returns c = (rw (← c .before .before .before .before .before .pre .0) (simp (eq-eqb _ _ (c .before .before .before .if1 .taken), eq-eqb _ _ (c .before .before .if2 .taken)) (c .wide .ensures .0)), omega arith)
 
 shared-slice-read-wide-2 : tie.Need-shared-slice-read-wide-2
 shared-slice-read-wide-2 c = let h = head-at (c .before .before .before .before .args .h) (ne-eqb _ _ (c .before .if2 .left)) (eq-eqb _ _ (c .before .before .if1 .taken)) in omega arith
-
-wide-requires-2 : tie.Need-wide-requires-2
-wide-requires-2 c κs = search needs
 
 returns-2 : tie.Need-returns-2
 unfolding idLen
@@ -33,11 +27,5 @@ returns-3 c = (rw (← c .before .before .pre .0) (simp (ne-eqb _ _ (c .if1 .lef
 pub id-len-spec : {M : Type 1} → statement M
 id-len-spec =
     tie.close
-    (tie.spec
-    shared-slice-read-wide
-    wide-requires
-    returns
-    shared-slice-read-wide-2
-    wide-requires-2
-    returns-2
-    returns-3)
+    (tie.spec shared-slice-read-wide (λ c κs. search needs) returns shared-slice-read-wide-2 (λ c κs. search needs)
+    returns-2 returns-3)

@@ -10,9 +10,6 @@ use native.Mathlib.Omega.{arith}
 shared-slice-read-wide : tie.Need-shared-slice-read-wide
 shared-slice-read-wide c = let h = head-at (c .before .before .before .args .h) (eq-eqb _ _ (c .before .if1 .taken)) refl in omega arith
 
-wide-requires : tie.Need-wide-requires
-wide-requires c κs = search needs
-
 returns : tie.Need-returns
 unfolding payloadLen
 returns c = (rw (← c .before .before .before .before .pre .0) (simp (eq-eqb _ _ (c .before .before .if1 .taken)) (c .wide .ensures .0)), omega arith)
@@ -20,17 +17,11 @@ returns c = (rw (← c .before .before .before .before .pre .0) (simp (eq-eqb _ 
 shared-slice-read-wide-2 : tie.Need-shared-slice-read-wide-2
 shared-slice-read-wide-2 c = let h = head-at (c .before .before .before .args .h) (ne-eqb _ _ (c .before .if1 .left)) refl in omega arith
 
-wide-requires-2 : tie.Need-wide-requires-2
-wide-requires-2 c κs = search needs
-
 mul-result : tie.Need-mul-result
 mul-result c = omega arith
 
 shared-slice-read-wide-3 : tie.Need-shared-slice-read-wide-3
 shared-slice-read-wide-3 c = let h = head-at (c .before .before .before .before .before .args .h) (ne-eqb _ _ (c .before .before .before .if1 .left)) refl in omega arith
-
-wide-requires-3 : tie.Need-wide-requires-3
-wide-requires-3 c κs = search needs
 
 add-result : tie.Need-add-result
 add-result c = omega arith
@@ -41,9 +32,6 @@ mul-result-2 c = omega arith
 shared-slice-read-wide-4 : tie.Need-shared-slice-read-wide-4
 shared-slice-read-wide-4 c = let h = head-at (c .before .before .before .before .before .before .before .args .h) (ne-eqb _ _ (c .before .before .before .before .before .if1 .left)) refl in omega arith
 
-wide-requires-4 : tie.Need-wide-requires-4
-wide-requires-4 c κs = search needs
-
 add-result-2 : tie.Need-add-result-2
 add-result-2 c = omega arith
 
@@ -52,9 +40,6 @@ mul-result-3 c = omega arith
 
 shared-slice-read-wide-5 : tie.Need-shared-slice-read-wide-5
 shared-slice-read-wide-5 c = let h = head-at (c .before .before .before .before .before .before .before .before .before .args .h) (ne-eqb _ _ (c .before .before .before .before .before .before .before .if1 .left)) refl in omega arith
-
-wide-requires-5 : tie.Need-wide-requires-5
-wide-requires-5 c κs = search needs
 
 add-result-3 : tie.Need-add-result-3
 add-result-3 c = omega arith
@@ -66,22 +51,7 @@ returns-2 c = (rw (← c .before .before .before .before .before .before .before
 pub payload-len-spec : {M : Type 1} → statement M
 payload-len-spec =
     tie.close
-    (tie.spec
-    shared-slice-read-wide
-    wide-requires
-    returns
-    shared-slice-read-wide-2
-    wide-requires-2
-    mul-result
-    shared-slice-read-wide-3
-    wide-requires-3
-    add-result
-    mul-result-2
-    shared-slice-read-wide-4
-    wide-requires-4
-    add-result-2
-    mul-result-3
-    shared-slice-read-wide-5
-    wide-requires-5
-    add-result-3
+    (tie.spec shared-slice-read-wide (λ c κs. search needs) returns shared-slice-read-wide-2 (λ c κs. search needs)
+    mul-result shared-slice-read-wide-3 (λ c κs. search needs) add-result mul-result-2 shared-slice-read-wide-4
+    (λ c κs. search needs) add-result-2 mul-result-3 shared-slice-read-wide-5 (λ c κs. search needs) add-result-3
     returns-2)

@@ -2,15 +2,6 @@ use borrow.Author.Needs.{needs}
 use Rattle.hearing.proofs.heard_now.Statement.{statement}
 use Rattle.hearing.proofs.heard_now.Tie as tie
 
-enum-told : tie.Need-enum-told
-enum-told c = search needs
-
-enum-known-now : tie.Need-enum-known-now
-enum-known-now c = search needs
-
-misfit-requires : tie.Need-misfit-requires
-misfit-requires c κs = search needs
-
 returns : tie.Need-returns
 returns c = rw (c .enum-told .given .1)
 
@@ -22,4 +13,4 @@ returns-3 c = rw (c .before .before .before .now .given .1, ← (c .before .misf
 
 pub heard-now-spec : {M : Type 1} → statement M
 heard-now-spec =
-    tie.close (tie.spec enum-told enum-known-now misfit-requires returns returns-2 returns-3)
+    tie.close (tie.spec (λ c. search needs) (λ c. search needs) (λ c κs. search needs) returns returns-2 returns-3)

@@ -10,18 +10,6 @@ use Rattle.scan.specs.Zeros.{alike}
 use Rattle.incoming.proofs.Presented.{other-length}
 use Rattle.protocol.specs.Tag.{password}
 
-sub-same : tie.Need-sub-same
-sub-same c = search needs
-
-part-same-start : tie.Need-part-same-start
-part-same-start c = search needs
-
-part-same-end : tie.Need-part-same-end
-part-same-end c = search needs
-
-slice-aggregate-same : tie.Need-slice-aggregate-same
-slice-aggregate-same c = search needs
-
 same-requires : tie.Need-same-requires
 same-requires c κs = search needs
 
@@ -34,11 +22,5 @@ returns-2 c = other-length (now (c .before .before .args .s)) (c .if1 .left)
 pub is-password-spec : {M : Type 1} → statement M
 is-password-spec =
     tie.close
-    (tie.spec
-    sub-same
-    part-same-start
-    part-same-end
-    slice-aggregate-same
-    same-requires
-    returns
+    (tie.spec (λ c. search needs) (λ c. search needs) (λ c. search needs) (λ c. search needs) same-requires returns
     returns-2)

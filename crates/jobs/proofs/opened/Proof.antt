@@ -2,15 +2,6 @@ use borrow.Author.Needs.{needs}
 use Rattle.jobs.proofs.opened.Statement.{statement}
 use Rattle.jobs.proofs.opened.Tie as tie
 
-enum-known-o : tie.Need-enum-known-o
-enum-known-o c = search needs
-
-enum-told : tie.Need-enum-told
-enum-told c = search needs
-
-enum-known-o-2 : tie.Need-enum-known-o-2
-enum-known-o-2 c = search needs
-
 returns : tie.Need-returns
 returns c = rw (c .before .o .given .1)
 
@@ -26,4 +17,4 @@ returns-4 c = rw (c .before .o2 .given .1)
 pub opened-spec : {M : Type 1} → statement M
 opened-spec =
     tie.close
-    (tie.spec enum-known-o enum-told enum-known-o-2 returns returns-2 returns-3 returns-4)
+    (tie.spec (λ c. search needs) (λ c. search needs) (λ c. search needs) returns returns-2 returns-3 returns-4)

@@ -2,18 +2,6 @@ use borrow.Author.Needs.{needs}
 use Rattle.jobs.proofs.stored.Statement.{statement}
 use Rattle.jobs.proofs.stored.Tie as tie
 
-enum-known-s : tie.Need-enum-known-s
-enum-known-s c = search needs
-
-enum-told : tie.Need-enum-told
-enum-told c = search needs
-
-next-job-requires : tie.Need-next-job-requires
-next-job-requires c κs = search needs
-
-enum-known-s-2 : tie.Need-enum-known-s-2
-enum-known-s-2 c = search needs
-
 returns : tie.Need-returns
 returns c = rw (c .before .s .given .1)
 
@@ -26,4 +14,5 @@ returns-3 c = rw (c .before .s2 .given .1)
 pub stored-spec : {M : Type 1} → statement M
 stored-spec =
     tie.close
-    (tie.spec enum-known-s enum-told next-job-requires enum-known-s-2 returns returns-2 returns-3)
+    (tie.spec (λ c. search needs) (λ c. search needs) (λ c κs. search needs) (λ c. search needs) returns returns-2
+    returns-3)

@@ -24,9 +24,6 @@ record-len-requires c κs =
 put-message-head-requires : tie.Need-put-message-head-requires
 put-message-head-requires c κs = omega (arith, front-pieces (c .before .before .before .before .before .before .before .before .args .area) (c .before .before .before .before .before .before .before .before .args .format) (now (c .before .before .before .before .before .before .before .before .args .kind)) (c .before .before .before .before .before .before .before .before .args .payload), container-length (c .before .before .before .before .before .before .before .before .args .area), ap (λ (n : ℕ). length (messageHead n)) (c .record-len .ensures), c .before .before .before .before .put-container)
 
-cast-put-record-head : tie.Need-cast-put-record-head
-cast-put-record-head c = search needs
-
 put-record-head-requires : tie.Need-put-record-head-requires
 put-record-head-requires c κs =
     let e = ap (λ (n : ℕ). length (messageHead n)) (c .before .before .before .before .record-len .ensures) in
@@ -34,9 +31,6 @@ put-record-head-requires c κs =
 
 copy-to-requires : tie.Need-copy-to-requires
 copy-to-requires c κs = omega (arith, front-pieces (c .before .before .before .before .before .before .before .before .before .before .before .before .before .before .before .before .args .area) (c .before .before .before .before .before .before .before .before .before .before .before .before .before .before .before .before .args .format) (now (c .before .before .before .before .before .before .before .before .before .before .before .before .before .before .before .before .args .kind)) (c .before .before .before .before .before .before .before .before .before .before .before .before .before .before .before .before .args .payload), container-length (c .before .before .before .before .before .before .before .before .before .before .before .before .before .before .before .before .args .area), ap (λ (n : ℕ). length (messageHead n)) (c .before .before .before .before .before .before .before .before .record-len .ensures), c .before .before .before .before .before .before .before .before .before .before .before .before .put-container, c .before .before .before .before .before .before .before .put-message-head, c .before .before .before .put-record-head, c .before .before .before .before .before .before .before .before .before .before .before .before .before .before .before .before .pre .3)
-
-same-length : tie.Need-same-length
-same-length c = search needs
 
 returns : tie.Need-returns
 unfolding front
@@ -50,12 +44,5 @@ returns c = let s = c .before .before .before .before .before .before .before .b
 pub put-front-spec : {M : Type 1} → statement M
 put-front-spec =
     tie.close
-    (tie.spec
-    put-container-requires
-    record-len-requires
-    put-message-head-requires
-    cast-put-record-head
-    put-record-head-requires
-    copy-to-requires
-    same-length
-    returns)
+    (tie.spec put-container-requires record-len-requires put-message-head-requires (λ c. search needs)
+    put-record-head-requires copy-to-requires (λ c. search needs) returns)

@@ -39,9 +39,6 @@ put-requires c κs =
     let f = front-length (a .area) (a .format) (now (a .kind)) (length (now (a .head)) + length (now (a .rest))) in
     omega (arith, c .before .before .before .before .before .before .before .before .before .before .before .put-front, c .before .before .before .before .before .before .before .copy-to, c .before .before .before .copy-long, c .before .before .before .before .before .before .before .before .before .before .before .before .before .before .before .before .before .pre .2)
 
-same-length : tie.Need-same-length
-same-length c = search needs
-
 returns : tie.Need-returns
 returns c =
     let a = c .before .before .before .before .before .before .before .before .before .before .before .before .before .before .before .before .before .before .before .before .args in
@@ -52,11 +49,5 @@ returns c =
 pub put-image-spec : {M : Type 1} → statement M
 put-image-spec =
     tie.close
-    (tie.spec
-    add-put-front
-    put-front-requires
-    copy-to-requires
-    copy-long-requires
-    put-requires
-    same-length
+    (tie.spec add-put-front put-front-requires copy-to-requires copy-long-requires put-requires (λ c. search needs)
     returns)

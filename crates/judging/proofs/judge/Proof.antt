@@ -15,9 +15,6 @@ returns : tie.Need-returns
 unfolding checks
 returns c = simp (lt-ltb _ _ (c .if1 .taken))
 
-image-len-for-requires : tie.Need-image-len-for-requires
-image-len-for-requires c κs = search needs
-
 returns-2 : tie.Need-returns-2
 unfolding checks
 returns-2 c = let a = c .before .before .before .args in
@@ -52,12 +49,4 @@ returns-5 c = let a = c .before .before .before .before .before .before .args in
 
 pub judge-spec : {M : Type 1} → statement M
 judge-spec =
-    tie.close
-    (tie.spec
-    returns
-    image-len-for-requires
-    returns-2
-    record-len-requires
-    returns-3
-    returns-4
-    returns-5)
+    tie.close (tie.spec returns (λ c κs. search needs) returns-2 record-len-requires returns-3 returns-4 returns-5)

@@ -6,12 +6,6 @@ use borrow.Author.Tests.{eq-eqb, ne-eqb}
 use Rattle.pieces.specs.Parts.{isOf}
 use Rattle.pieces.proofs.Parts.{is-one, is-other}
 
-kind-requires : tie.Need-kind-requires
-kind-requires c κs = search needs
-
-shared-slice-read-result : tie.Need-shared-slice-read-result
-shared-slice-read-result c = search needs
-
 returns : tie.Need-returns
 unfolding isOf
 returns c = simp (eq-eqb _ _ (c .before .before .before .if1 .taken)) (rw (← c .before .before .kind .ensures) (is-one (now (c .before .before .kind .result)) (c .before .before .before .before .before .before .args .name) (c .before .if2 .taken)))
@@ -25,4 +19,4 @@ unfolding isOf
 returns-3 c = simp (ne-eqb _ _ (c .if1 .left))
 
 pub is-spec : {M : Type 1} → statement M
-is-spec = tie.close (tie.spec kind-requires shared-slice-read-result returns returns-2 returns-3)
+is-spec = tie.close (tie.spec (λ c κs. search needs) (λ c. search needs) returns returns-2 returns-3)

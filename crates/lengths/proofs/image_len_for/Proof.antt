@@ -7,23 +7,8 @@ use Rattle.layout.proofs.Sizes.{image-is, record-is}
 use Rattle.lengths.proofs.Heads.{block-at-most, block-sat}
 use native.Mathlib.Omega.{arith}
 
-sat-add-requires : tie.Need-sat-add-requires
-sat-add-requires c κs = search needs
-
-head-len-requires : tie.Need-head-len-requires
-head-len-requires c κs = search needs
-
-sat-add-requires-2 : tie.Need-sat-add-requires-2
-sat-add-requires-2 c κs = search needs
-
-block-len-requires : tie.Need-block-len-requires
-block-len-requires c κs = search needs
-
 add-sat-add : tie.Need-add-sat-add
 add-sat-add c = omega (arith, block-at-most (c .before .sat-add2 .result), c .block-len .ensures)
-
-sat-add-requires-3 : tie.Need-sat-add-requires-3
-sat-add-requires-3 c κs = search needs
 
 returns : tie.Need-returns
 returns c = let k = c .before .before .before .before .before .args .kind-len in
@@ -35,11 +20,5 @@ returns c = let k = c .before .before .before .before .before .args .kind-len in
 pub image-len-for-spec : {M : Type 1} → statement M
 image-len-for-spec =
     tie.close
-    (tie.spec
-    sat-add-requires
-    head-len-requires
-    sat-add-requires-2
-    block-len-requires
-    add-sat-add
-    sat-add-requires-3
-    returns)
+    (tie.spec (λ c κs. search needs) (λ c κs. search needs) (λ c κs. search needs) (λ c κs. search needs) add-sat-add
+    (λ c κs. search needs) returns)

@@ -4,22 +4,13 @@ use Rattle.links.proofs.uri.Tie as tie
 use mathlib.Core.Path.{sym, _∙_}
 use Rattle.links.specs.Links.{uriOf}
 
-is-requires : tie.Need-is-requires
-is-requires c κs = search needs
-
-uri-at-requires : tie.Need-uri-at-requires
-uri-at-requires c κs = search needs
-
 returns : tie.Need-returns
 unfolding uriOf
 returns c = simp (sym (c .before .before .is .ensures) ∙ c .before .if1 .taken) (c .uri-at .ensures)
-
-nothing-requires : tie.Need-nothing-requires
-nothing-requires c κs = search needs
 
 returns-2 : tie.Need-returns-2
 unfolding uriOf
 returns-2 c = simp (sym (c .before .before .is .ensures) ∙ c .before .if1 .left) (c .nothing .ensures)
 
 pub uri-spec : {M : Type 1} → statement M
-uri-spec = tie.close (tie.spec is-requires uri-at-requires returns nothing-requires returns-2)
+uri-spec = tie.close (tie.spec (λ c κs. search needs) (λ c κs. search needs) returns (λ c κs. search needs) returns-2)

@@ -12,12 +12,6 @@ use Rattle.contents.proofs.Cases.{payload-there}
 use Rattle.links.proofs.Cases.{uri-empty}
 use native.Mathlib.Omega.{arith}
 
-payload-requires : tie.Need-payload-requires
-payload-requires c κs = search needs
-
-nothing-requires : tie.Need-nothing-requires
-nothing-requires c κs = search needs
-
 returns : tie.Need-returns
 returns c = c .nothing .ensures ∙ uri-empty _ _ (sym (ap length (c .before .before .payload .ensures)) ∙ c .before .if1 .taken)
 
@@ -36,11 +30,4 @@ returns-2 c = c .uri-in .ensures ∙ ap (λ (p : List ℕ). uriIn p (payloadAt (
 pub uri-at-spec : {M : Type 1} → statement M
 uri-at-spec =
     tie.close
-    (tie.spec
-    payload-requires
-    nothing-requires
-    returns
-    add-uri-in
-    add-uri-in-2
-    uri-in-requires
-    returns-2)
+    (tie.spec (λ c κs. search needs) (λ c κs. search needs) returns add-uri-in add-uri-in-2 uri-in-requires returns-2)

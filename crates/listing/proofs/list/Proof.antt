@@ -17,22 +17,13 @@ returns c = list-none (now (c .before .before .before .args .image)) (now (c .be
 put-refused-requires : tie.Need-put-refused-requires
 put-refused-requires c κs = omega (arith, refused-length 35, decimal-two 35 (omega arith))
 
-same-length : tie.Need-same-length
-same-length c = search needs
-
 returns-2 : tie.Need-returns-2
 returns-2 c = let image = now (c .before .before .before .before .before .before .before .before .args .image) in
     list-done image (now (c .before .before .before .before .before .before .before .before .args .out)) (omega arith) (wrote-as (too-long image (omega arith)) (c .before .before .put-refused .ensures))
 
-read-requires : tie.Need-read-requires
-read-requires c κs = search needs
-
 put-message-requires : tie.Need-put-message-requires
 put-message-requires c κs = let image = now (c .before .before .before .before .before .before .args .image) in
     omega (arith, listing-fits image, ap length (short-enough image (omega arith) (c .read .ensures)))
-
-same-length-2 : tie.Need-same-length-2
-same-length-2 c = search needs
 
 returns-3 : tie.Need-returns-3
 returns-3 c = let image = now (c .before .before .before .before .before .before .before .before .before .args .image) in
@@ -41,12 +32,5 @@ returns-3 c = let image = now (c .before .before .before .before .before .before
 pub list-spec : {M : Type 1} → statement M
 list-spec =
     tie.close
-    (tie.spec
-    returns
-    put-refused-requires
-    same-length
-    returns-2
-    read-requires
-    put-message-requires
-    same-length-2
-    returns-3)
+    (tie.spec returns put-refused-requires (λ c. search needs) returns-2 (λ c κs. search needs) put-message-requires
+    (λ c. search needs) returns-3)

@@ -10,23 +10,14 @@ use Rattle.digits.specs.Text.{decimal}
 use Rattle.digits.proofs.Writes.{wrote-as, word-place}
 use native.Mathlib.Omega.{arith}
 
-put-number-requires : tie.Need-put-number-requires
-put-number-requires c κs = search needs
-
 put-number-requires-2 : tie.Need-put-number-requires-2
 put-number-requires-2 c κs = let p = word-place (decimal (c .before .before .before .before .before .before .args .number)) 0x20 (c .before .before .before .put-number .ensures) in omega arith
-
-flag-requires : tie.Need-flag-requires
-flag-requires c κs = search needs
 
 put-number-requires-3 : tie.Need-put-number-requires-3
 put-number-requires-3 c κs = let p = word-place (decimal (c .before .before .before .before .before .before .before .before .before .before .before .args .number)) 0x20 (c .before .before .before .before .before .before .before .before .put-number .ensures) in
     let q = word-place (decimal (c .before .before .before .before .before .before .before .before .before .before .before .args .format)) 0x20 (c .before .before .before .before .put-number2 .ensures) in
     let f = ap (λ (n : ℕ). length (decimal n)) (c .flag .ensures) in
     omega arith
-
-same-length : tie.Need-same-length
-same-length c = search needs
 
 returns : tie.Need-returns
 returns c = let p = word-place (decimal (c .before .before .before .before .before .before .before .before .before .before .before .before .before .before .args .number)) 0x20 (c .before .before .before .before .before .before .before .before .before .before .before .put-number .ensures) in
@@ -37,10 +28,5 @@ returns c = let p = word-place (decimal (c .before .before .before .before .befo
 pub put-head-spec : {M : Type 1} → statement M
 put-head-spec =
     tie.close
-    (tie.spec
-    put-number-requires
-    put-number-requires-2
-    flag-requires
-    put-number-requires-3
-    same-length
-    returns)
+    (tie.spec (λ c κs. search needs) put-number-requires-2 (λ c κs. search needs) put-number-requires-3
+    (λ c. search needs) returns)

@@ -6,17 +6,11 @@ use Rattle.listing.specs.Listing.{okLine}
 use Rattle.listing.proofs.Lines.{ok-length}
 use native.Mathlib.Omega.{arith}
 
-slice-aggregate-copy-to : tie.Need-slice-aggregate-copy-to
-slice-aggregate-copy-to c = search needs
-
 copy-to-requires : tie.Need-copy-to-requires
 copy-to-requires c κs = omega (arith, ok-length (c .before .before .before .args .count))
 
 put-number-requires : tie.Need-put-number-requires
 put-number-requires c κs = omega (arith, ok-length (c .before .before .before .before .before .before .before .args .count), c .before .before .before .copy-to .ensures .place)
-
-same-length : tie.Need-same-length
-same-length c = search needs
 
 returns : tie.Need-returns
 unfolding okLine
@@ -24,5 +18,4 @@ returns c = chain (omega (arith, ok-length (c .before .before .before .before .b
 
 pub put-ok-spec : {M : Type 1} → statement M
 put-ok-spec =
-    tie.close
-    (tie.spec slice-aggregate-copy-to copy-to-requires put-number-requires same-length returns)
+    tie.close (tie.spec (λ c. search needs) copy-to-requires put-number-requires (λ c. search needs) returns)

@@ -34,9 +34,6 @@ type-end c =
 put-head-requires : tie.Need-put-head-requires
 put-head-requires c κs = omega (arith, record-length (c .before .before .before .args .number) (c .before .before .before .args .r) (now (c .before .before .before .args .image)))
 
-kind-requires : tie.Need-kind-requires
-kind-requires c κs = search needs
-
 put-type-requires : tie.Need-put-type-requires
 put-type-requires c κs =
     let k = ap (λ (s : List ℕ). length (typeWord s)) (c .kind .ensures) in
@@ -50,9 +47,6 @@ put-number-requires-2 : tie.Need-put-number-requires-2
 put-number-requires-2 c κs =
     let i = word-place (decimal (c .before .before .before .before .before .before .before .before .before .before .before .before .before .before .before .before .args .r .«id_len»)) 0x20 (c .before .before .before .put-number .ensures) in
     omega (arith, head-end (c .before .before .before .before .before .before .before .before .before .before .before .before), type-end (c .before .before .before .before .before .before .before), record-length (c .before .before .before .before .before .before .before .before .before .before .before .before .before .before .before .before .args .number) (c .before .before .before .before .before .before .before .before .before .before .before .before .before .before .before .before .args .r) (now (c .before .before .before .before .before .before .before .before .before .before .before .before .before .before .before .before .args .image)))
-
-same-length : tie.Need-same-length
-same-length c = search needs
 
 returns : tie.Need-returns
 returns c =
@@ -68,11 +62,5 @@ returns c =
 pub put-record-spec : {M : Type 1} → statement M
 put-record-spec =
     tie.close
-    (tie.spec
-    put-head-requires
-    kind-requires
-    put-type-requires
-    put-number-requires
-    put-number-requires-2
-    same-length
-    returns)
+    (tie.spec put-head-requires (λ c κs. search needs) put-type-requires put-number-requires put-number-requires-2
+    (λ c. search needs) returns)

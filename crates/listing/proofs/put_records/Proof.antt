@@ -61,9 +61,6 @@ loop-holds c = (omega arith, refl, record { lines = []; wrote = record { bytes =
 step-requires : tie.Need-step-requires Inv-loop μ-loop
 step-requires c κs = tt
 
-enum-known-entry : tie.Need-enum-known-entry Inv-loop μ-loop
-enum-known-entry c = search needs
-
 add-put-record : tie.Need-add-put-record Inv-loop μ-loop
 add-put-record c = let f = fits (c .before .before .before .before) (c .before .before .entry .given .1) in
     omega (arith, record-length (c .before .before .before .before .before .loop .count + 1) (c .before .before .entry .given .0 .0) (now (c .before .before .before .before .before .before .before .before .args .image)))
@@ -87,42 +84,24 @@ loop-again c = let f = fits (c .before .before .before .before .before .before .
       going-on (omega arith) (c .before .before .before .before .before .before .before .before .loop .inv .2) (found (c .before .before .before .before .before .before .before) (c .before .before .before .before .before .entry .given .1)) (next (c .before .before .before .before .before .before .before)) (c .before .before .put-record .ensures),
     )
 
-enum-told : tie.Need-enum-told Inv-loop μ-loop
-enum-told c = search needs
-
 put-ok-requires : tie.Need-put-ok-requires Inv-loop μ-loop
 put-ok-requires c κs = let h = ends (c .before .before .before) _ (listed-end _ _ _ _ (found (c .before .before .before) (c .before .enum-told .given .1))) in omega arith
-
-same-length : tie.Need-same-length Inv-loop μ-loop
-same-length c = search needs
 
 returns : tie.Need-returns Inv-loop μ-loop
 returns c = let e = listed-end _ _ _ _ (found (c .before .before .before .before .before .before) (c .before .before .before .before .enum-told .given .1)) in
     let h = ends (c .before .before .before .before .before .before) _ e in
     gone (omega arith) (c .before .before .before .before .before .before .before .loop .inv .2) e (c .before .before .put-ok .ensures)
 
-enum-told-2 : tie.Need-enum-told-2 Inv-loop μ-loop
-enum-told-2 c = search needs
-
 put-refused-requires : tie.Need-put-refused-requires Inv-loop μ-loop
 put-refused-requires c κs = let h = ends (c .before .before .before) _ (listed-truncated _ _ _ _ (found (c .before .before .before) (c .before .enum-told2 .given .1))) in omega arith
-
-same-length-2 : tie.Need-same-length-2 Inv-loop μ-loop
-same-length-2 c = search needs
 
 returns-2 : tie.Need-returns-2 Inv-loop μ-loop
 returns-2 c = let e = listed-truncated _ _ _ _ (found (c .before .before .before .before .before .before) (c .before .before .before .before .enum-told2 .given .1)) in
     let h = ends (c .before .before .before .before .before .before) _ e in
     gone (omega arith) (c .before .before .before .before .before .before .before .loop .inv .2) e (c .before .before .put-refused .ensures)
 
-enum-told-3 : tie.Need-enum-told-3 Inv-loop μ-loop
-enum-told-3 c = search needs
-
 put-refused-requires-2 : tie.Need-put-refused-requires-2 Inv-loop μ-loop
 put-refused-requires-2 c κs = let h = ends (c .before .before .before) _ (listed-chunked _ _ _ _ (found (c .before .before .before) (c .before .enum-told3 .given .1))) in omega arith
-
-same-length-3 : tie.Need-same-length-3 Inv-loop μ-loop
-same-length-3 c = search needs
 
 returns-3 : tie.Need-returns-3 Inv-loop μ-loop
 returns-3 c = let e = listed-chunked _ _ _ _ (found (c .before .before .before .before .before .before) (c .before .before .before .before .enum-told3 .given .1)) in
@@ -132,26 +111,7 @@ returns-3 c = let e = listed-chunked _ _ _ _ (found (c .before .before .before .
 pub put-records-spec : {M : Type 1} → statement M
 put-records-spec =
     tie.close
-    (tie.spec
-    Inv-loop
-    μ-loop
-    loop-holds
-    step-requires
-    enum-known-entry
-    add-put-record
-    put-record-requires
-    add-count
-    loop-less
-    loop-again
-    enum-told
-    put-ok-requires
-    same-length
-    returns
-    enum-told-2
-    put-refused-requires
-    same-length-2
-    returns-2
-    enum-told-3
-    put-refused-requires-2
-    same-length-3
+    (tie.spec Inv-loop μ-loop loop-holds step-requires (λ c. search needs) add-put-record put-record-requires
+    add-count loop-less loop-again (λ c. search needs) put-ok-requires (λ c. search needs) returns (λ c. search needs)
+    put-refused-requires (λ c. search needs) returns-2 (λ c. search needs) put-refused-requires-2 (λ c. search needs)
     returns-3)

@@ -6,17 +6,11 @@ use Rattle.listing.specs.Listing.{refusedLine}
 use Rattle.listing.proofs.Lines.{refused-length}
 use native.Mathlib.Omega.{arith}
 
-slice-aggregate-copy-to : tie.Need-slice-aggregate-copy-to
-slice-aggregate-copy-to c = search needs
-
 copy-to-requires : tie.Need-copy-to-requires
 copy-to-requires c κs = omega (arith, refused-length (c .before .before .before .args .number))
 
 put-number-requires : tie.Need-put-number-requires
 put-number-requires c κs = omega (arith, refused-length (c .before .before .before .before .before .before .before .args .number), c .before .before .before .copy-to .ensures .place)
-
-same-length : tie.Need-same-length
-same-length c = search needs
 
 returns : tie.Need-returns
 unfolding refusedLine
@@ -24,5 +18,4 @@ returns c = chain (omega (arith, refused-length (c .before .before .before .befo
 
 pub put-refused-spec : {M : Type 1} → statement M
 put-refused-spec =
-    tie.close
-    (tie.spec slice-aggregate-copy-to copy-to-requires put-number-requires same-length returns)
+    tie.close (tie.spec (λ c. search needs) copy-to-requires put-number-requires (λ c. search needs) returns)

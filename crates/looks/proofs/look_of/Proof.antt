@@ -10,18 +10,9 @@ returns : tie.Need-returns
 unfolding lookOf
 returns c = rw (ne-eqb _ 2 (c .if1 .taken))
 
-place-of-requires : tie.Need-place-of-requires
-place-of-requires c κs = search needs
-
-user-look-requires : tie.Need-user-look-requires
-user-look-requires c κs = search needs
-
 returns-2 : tie.Need-returns-2
 unfolding lookOf
 returns-2 c = rw (eq-eqb _ 2 (c .before .before .before .if1 .left), eq-eqb _ 0x53 (c .before .if2 .taken)) (c .user-look .ensures ∙ ap (λ (a : ℕ). userLook a (c .before .before .before .before .before .args .n)) (c .before .before .place-of .ensures .0))
-
-system-look-requires : tie.Need-system-look-requires
-system-look-requires c κs = search needs
 
 returns-3 : tie.Need-returns-3
 unfolding lookOf
@@ -34,11 +25,5 @@ returns-4 c = rw (eq-eqb _ 2 (c .before .before .before .if1 .left), ne-eqb _ 0x
 pub look-of-spec : {M : Type 1} → statement M
 look-of-spec =
     tie.close
-    (tie.spec
-    returns
-    place-of-requires
-    user-look-requires
-    returns-2
-    system-look-requires
-    returns-3
+    (tie.spec returns (λ c κs. search needs) (λ c κs. search needs) returns-2 (λ c κs. search needs) returns-3
     returns-4)

@@ -3,9 +3,6 @@ use Rattle.looks.proofs.system_look.Statement.{statement}
 use Rattle.looks.proofs.system_look.Tie as tie
 use borrow.Author.Tests.{eq-eqb, ne-eqb}
 
-system-at-requires : tie.Need-system-at-requires
-system-at-requires c κs = search needs
-
 returns : tie.Need-returns
 returns c = rw (eq-eqb _ 1 (c .before .if1 .taken)) (c .system-at .ensures)
 
@@ -16,4 +13,4 @@ returns-3 : tie.Need-returns-3
 returns-3 c = rw (ne-eqb _ 1 (c .before .if1 .left), c .if2 .left)
 
 pub system-look-spec : {M : Type 1} → statement M
-system-look-spec = tie.close (tie.spec system-at-requires returns returns-2 returns-3)
+system-look-spec = tie.close (tie.spec (λ c κs. search needs) returns returns-2 returns-3)

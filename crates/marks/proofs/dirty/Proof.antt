@@ -5,9 +5,6 @@ use denote.Ref.{now}
 use Rattle.entry.proofs.Opens.{decoded-inside}
 use Rattle.entry.proofs.Calls.{dirty-is}
 
-decode-requires : tie.Need-decode-requires
-decode-requires c κs = search needs
-
 dirty-of-requires : tie.Need-dirty-of-requires
 dirty-of-requires c κs = decoded-inside (now (c .before .before .args .state)) (c .decode .result) (c .decode .ensures)
 
@@ -15,4 +12,4 @@ returns : tie.Need-returns
 returns c = dirty-is (now (c .before .before .before .args .state)) (c .before .decode .result) (c .dirty-of .result) (c .before .decode .ensures) (c .dirty-of .ensures)
 
 pub dirty-spec : {M : Type 1} → statement M
-dirty-spec = tie.close (tie.spec decode-requires dirty-of-requires returns)
+dirty-spec = tie.close (tie.spec (λ c κs. search needs) dirty-of-requires returns)

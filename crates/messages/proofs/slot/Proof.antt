@@ -9,15 +9,6 @@ use Rattle.messages.proofs.Table.{listed, silent, at-end, none}
 use Rattle.messages.proofs.slot.Statement.{statement}
 use Rattle.messages.proofs.slot.Tie as tie
 
-sub-result : tie.Need-sub-result
-sub-result c = search needs
-
-sub-result-2 : tie.Need-sub-result-2
-sub-result-2 c = search needs
-
-sub-result-3 : tie.Need-sub-result-3
-sub-result-3 c = search needs
-
 returns : tie.Need-returns
 returns c = (omega arith, at-end (c .before .args .number) (c .match .keys1))
 
@@ -63,16 +54,5 @@ returns-9 c = (omega arith, none (c .before .before .before .before .before .bef
 pub slot-spec : {M : Type 1} → statement M
 slot-spec =
     tie.close
-    (tie.spec
-    sub-result
-    sub-result-2
-    sub-result-3
-    returns
-    returns-2
-    returns-3
-    returns-4
-    returns-5
-    returns-6
-    returns-7
-    returns-8
-    returns-9)
+    (tie.spec (λ c. search needs) (λ c. search needs) (λ c. search needs) returns returns-2 returns-3 returns-4
+    returns-5 returns-6 returns-7 returns-8 returns-9)

@@ -6,41 +6,14 @@ use Rattle.numbers.specs.Flat.{setupCode, switchCode}
 use Rattle.numbers.specs.From.{setupFrom, switchFrom}
 use Rattle.agreeing.proofs.Owns.{wholeAt, at-tag, by-code, whole-none, whole-other}
 
-switch-from-requires : tie.Need-switch-from-requires
-switch-from-requires c κs = search needs
-
-switch-code-requires : tie.Need-switch-code-requires
-switch-code-requires c κs = search needs
-
-nowhere-requires : tie.Need-nowhere-requires
-nowhere-requires c κs = search needs
-
 returns : tie.Need-returns
 returns c = by-code (c .before .before .before .before .args .c) (c .before .before .before .before .args .p) (wholeAt (c .before .before .before .before .args .c) (c .before .before .before .before .args .p)) 9 (c .before .switch-code .result) (switchCode (switchFrom (c .before .before .before .before .args .c))) (c .before .before .before .before .args .tag) (c .nowhere .result) refl (c .before .switch-code .ensures ∙ ap switchCode (c .before .before .switch-from .ensures)) (c .nowhere .ensures) (c .before .before .before .if1 .taken)
-
-scrub-own-requires : tie.Need-scrub-own-requires
-scrub-own-requires c κs = search needs
 
 returns-2 : tie.Need-returns-2
 returns-2 c = at-tag (wholeAt (c .before .before .before .args .c) (c .before .before .before .args .p)) 12 (c .before .before .before .args .tag) (c .scrub-own .result) (c .before .if2 .taken) (c .scrub-own .ensures)
 
-setup-from-requires : tie.Need-setup-from-requires
-setup-from-requires c κs = search needs
-
-setup-code-requires : tie.Need-setup-code-requires
-setup-code-requires c κs = search needs
-
-nowhere-requires-2 : tie.Need-nowhere-requires-2
-nowhere-requires-2 c κs = search needs
-
 returns-3 : tie.Need-returns-3
 returns-3 c = by-code (c .before .before .before .before .before .before .args .c) (c .before .before .before .before .before .before .args .p) (wholeAt (c .before .before .before .before .before .before .args .c) (c .before .before .before .before .before .before .args .p)) 13 (c .before .setup-code .result) (setupCode (setupFrom (c .before .before .before .before .before .before .args .c))) (c .before .before .before .before .before .before .args .tag) (c .nowhere2 .result) refl (c .before .setup-code .ensures ∙ ap setupCode (c .before .before .setup-from .ensures)) (c .nowhere2 .ensures) (c .before .before .before .if3 .taken)
-
-code-requires : tie.Need-code-requires
-code-requires c κs = search needs
-
-nowhere-requires-3 : tie.Need-nowhere-requires-3
-nowhere-requires-3 c κs = search needs
 
 returns-4 : tie.Need-returns-4
 returns-4 c = whole-none (c .before .before .before .before .before .before .args .c) (c .before .before .before .before .before .before .args .p) (c .before .code .result) (c .before .before .before .before .before .before .args .tag) (c .nowhere3 .result) (c .before .code .ensures) (c .nowhere3 .ensures) _ refl (c .before .before .if4 .taken)
@@ -51,18 +24,6 @@ returns-5 c = whole-other (c .before .before .before .before .args .c) (c .befor
 pub whole-own-spec : {M : Type 1} → statement M
 whole-own-spec =
     tie.close
-    (tie.spec
-    switch-from-requires
-    switch-code-requires
-    nowhere-requires
-    returns
-    scrub-own-requires
-    returns-2
-    setup-from-requires
-    setup-code-requires
-    nowhere-requires-2
-    returns-3
-    code-requires
-    nowhere-requires-3
-    returns-4
-    returns-5)
+    (tie.spec (λ c κs. search needs) (λ c κs. search needs) (λ c κs. search needs) returns (λ c κs. search needs)
+    returns-2 (λ c κs. search needs) (λ c κs. search needs) (λ c κs. search needs) returns-3 (λ c κs. search needs)
+    (λ c κs. search needs) returns-4 returns-5)

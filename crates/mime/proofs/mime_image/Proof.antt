@@ -11,18 +11,6 @@ use Rattle.layout.specs.Image.{mimeImage}
 use Rattle.judging.proofs.Judged.{room-of, finished, refused}
 use native.Mathlib.Omega.{arith}
 
-judge-requires : tie.Need-judge-requires
-judge-requires c κs = search needs
-
-enum-known-why : tie.Need-enum-known-why
-enum-known-why c = search needs
-
-enum-told : tie.Need-enum-told
-enum-told c = search needs
-
-slice-aggregate-put-image : tie.Need-slice-aggregate-put-image
-slice-aggregate-put-image c = search needs
-
 put-image-requires : tie.Need-put-image-requires
 put-image-requires c κs =
     let a = c .before .before .before .before .before .before .before .before .args in
@@ -33,21 +21,11 @@ put-image-requires c κs =
 returns : tie.Need-returns
 returns c = refused _ (mimeImage (c .before .before .before .before .before .before .before .args .area) (now (c .before .before .before .before .before .before .before .args .mime)) (now (c .before .before .before .before .before .before .before .args .payload))) (sym (c .before .before .before .judge .ensures) ∙ c .before .why .given .1)
 
-same-length : tie.Need-same-length
-same-length c = search needs
-
 returns-2 : tie.Need-returns-2
 returns-2 c = finished (sym (c .before .before .before .before .before .before .before .judge .ensures) ∙ c .before .before .before .before .before .enum-told .given .1) (c .before .before .put-image .ensures)
 
 pub mime-image-spec : {M : Type 1} → statement M
 mime-image-spec =
     tie.close
-    (tie.spec
-    judge-requires
-    enum-known-why
-    enum-told
-    slice-aggregate-put-image
-    put-image-requires
-    returns
-    same-length
-    returns-2)
+    (tie.spec (λ c κs. search needs) (λ c. search needs) (λ c. search needs) (λ c. search needs) put-image-requires
+    returns (λ c. search needs) returns-2)

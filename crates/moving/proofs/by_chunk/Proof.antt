@@ -4,23 +4,8 @@ use Rattle.moving.proofs.by_chunk.Tie as tie
 use denote.Ref.{now}
 use Rattle.wiping.proofs.Wipings.{read-moves, reread-moves}
 
-bare-requires : tie.Need-bare-requires
-bare-requires c κs = search needs
-
-chunk-from-requires : tie.Need-chunk-from-requires
-chunk-from-requires c κs = search needs
-
-after-read-requires : tie.Need-after-read-requires
-after-read-requires c κs = search needs
-
 returns : tie.Need-returns
 returns c = read-moves (c .before .before .before .before .before .before .before .before .before .args .f) (c .before .chunk-from .result) (now (c .before .before .before .before .before .before .before .before .before .args .reply)) (c .before .before .before .before .before .bare .result) (c .after-read .result) (c .before .before .before .before .before .bare .ensures) (c .before .before .before .before .if1 .taken) (c .before .before .if2 .taken) (c .before .chunk-from .ensures) (c .after-read .ensures)
-
-chunk-from-requires-2 : tie.Need-chunk-from-requires-2
-chunk-from-requires-2 c κs = search needs
-
-after-reread-requires : tie.Need-after-reread-requires
-after-reread-requires c κs = search needs
 
 returns-2 : tie.Need-returns-2
 returns-2 c = reread-moves (c .before .before .before .before .before .before .before .before .before .before .before .args .f) (c .before .chunk-from2 .result) (now (c .before .before .before .before .before .before .before .before .before .before .before .args .reply)) (c .before .before .before .before .before .before .before .bare .result) (c .after-reread .result) (c .before .before .before .before .before .before .before .bare .ensures) (c .before .before .before .before .before .before .if1 .taken) (c .before .before .if3 .taken) (c .before .chunk-from2 .ensures) (c .after-reread .ensures)
@@ -28,19 +13,8 @@ returns-2 c = reread-moves (c .before .before .before .before .before .before .b
 returns-3 : tie.Need-returns-3
 returns-3 c = tt
 
-returns-4 : tie.Need-returns-4
-returns-4 c = search needs
-
 pub by-chunk-spec : {M : Type 1} → statement M
 by-chunk-spec =
     tie.close
-    (tie.spec
-    bare-requires
-    chunk-from-requires
-    after-read-requires
-    returns
-    chunk-from-requires-2
-    after-reread-requires
-    returns-2
-    returns-3
-    returns-4)
+    (tie.spec (λ c κs. search needs) (λ c κs. search needs) (λ c κs. search needs) returns (λ c κs. search needs)
+    (λ c κs. search needs) returns-2 returns-3 (λ c. search needs))

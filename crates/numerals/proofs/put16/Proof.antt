@@ -5,25 +5,12 @@ use Rattle.slices.proofs.Splice.{chain}
 use Rattle.numerals.proofs.put16.Statement.{statement}
 use Rattle.numerals.proofs.put16.Tie as tie
 
-cast-put : tie.Need-cast-put
-cast-put c = search needs
-
-put-requires : tie.Need-put-requires
-put-requires c κs = search needs
-
-cast-put-2 : tie.Need-cast-put-2
-cast-put-2 c = search needs
-
-put-requires-2 : tie.Need-put-requires-2
-put-requires-2 c κs = search needs
-
-same-length : tie.Need-same-length
-same-length c = search needs
-
 returns : tie.Need-returns
 unfolding be
 returns c = chain (omega arith) (c .before .before .before .before .before .before .put .ensures) (c .before .before .put2 .ensures)
 
 pub put16-spec : {M : Type 1} → statement M
 put16-spec =
-    tie.close (tie.spec cast-put put-requires cast-put-2 put-requires-2 same-length returns)
+    tie.close
+    (tie.spec (λ c. search needs) (λ c κs. search needs) (λ c. search needs) (λ c κs. search needs)
+    (λ c. search needs) returns)

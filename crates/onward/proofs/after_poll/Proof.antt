@@ -6,15 +6,6 @@ use Rattle.wipe.specs.declared.scrub.Scrub.the-variants.{Wait}
 use Rattle.wiping.proofs.Wipings.{poll-sane, near, leads-poll}
 use native.Mathlib.Omega.{arith}
 
-chunk-stop-requires : tie.Need-chunk-stop-requires
-chunk-stop-requires c κs = search needs
-
-row-sound-requires : tie.Need-row-sound-requires
-row-sound-requires c κs = search needs
-
-add-if1 : tie.Need-add-if1
-add-if1 c = search needs
-
 add-next-row : tie.Need-add-next-row
 add-next-row c = let h = near (c .before .before .before .before .before .args .m) (c .before .before .before .before .before .args .rows) (Wait (c .before .before .before .before .before .args .p) (c .before .before .before .before .before .args .r) (Poll (c .before .before .before .before .before .args .n))) (poll-sane (c .before .before .before .before .before .args .m) (c .before .before .before .before .before .args .rows) (c .before .before .before .before .chunk-stop .result) (c .before .before .before .before .before .args .n) (c .before .before .before .row-sound .result) (c .before .before .before .before .before .args .p) (c .before .before .before .before .before .args .r) (c .before .before .before .before .chunk-stop .ensures .0) (c .before .before .before .row-sound .ensures) (c .before .if1 .taken)) in omega (arith, h)
 
@@ -30,11 +21,5 @@ returns-2 c = λ got. tt
 pub after-poll-spec : {M : Type 1} → statement M
 after-poll-spec =
     tie.close
-    (tie.spec
-    chunk-stop-requires
-    row-sound-requires
-    add-if1
-    add-next-row
-    next-row-requires
-    returns
+    (tie.spec (λ c κs. search needs) (λ c κs. search needs) (λ c. search needs) add-next-row next-row-requires returns
     returns-2)

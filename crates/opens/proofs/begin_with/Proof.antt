@@ -25,18 +25,6 @@ exact c {v} {p} e j =
     ∙ ap (λ (n : ℕ). verdict (checks (length (now (a .out))) (a .area) (length (now (a .kind))) n)) (sym e)
     ∙ sym j
 
-sat-add-requires : tie.Need-sat-add-requires
-sat-add-requires c κs = search needs
-
-judge-requires : tie.Need-judge-requires
-judge-requires c κs = search needs
-
-enum-known-why : tie.Need-enum-known-why
-enum-known-why c = search needs
-
-enum-told : tie.Need-enum-told
-enum-told c = search needs
-
 put-front-requires : tie.Need-put-front-requires
 put-front-requires c κs =
     let a = c .before .before .before .before .before .before .before .before .args in
@@ -56,9 +44,6 @@ returns c =
     let a = c .before .before .before .before .before .before .before .before .args in
     refused _ (front (a .area) (a .format) (now (a .kind)) (a .rest-len + length (now (a .head))) ++ now (a .head)) (exact (c .before .before .before .before .before .before .before .before) (c .before .before .before .before .sat-add .ensures) (c .before .before .before .judge .ensures) ∙ c .before .why .given .1)
 
-same-length : tie.Need-same-length
-same-length c = search needs
-
 returns-2 : tie.Need-returns-2
 returns-2 c =
     let a = c .before .before .before .before .before .before .before .before .before .before .before .before .before .before .before .args in
@@ -71,13 +56,5 @@ returns-2 c =
 pub begin-with-spec : {M : Type 1} → statement M
 begin-with-spec =
     tie.close
-    (tie.spec
-    sat-add-requires
-    judge-requires
-    enum-known-why
-    enum-told
-    put-front-requires
-    copy-to-requires
-    returns
-    same-length
-    returns-2)
+    (tie.spec (λ c κs. search needs) (λ c κs. search needs) (λ c. search needs) (λ c. search needs) put-front-requires
+    copy-to-requires returns (λ c. search needs) returns-2)

@@ -4,29 +4,17 @@ use Rattle.orders.proofs.order_of.Tie as tie
 use borrow.Author.Tests.{eq-eqb, ne-eqb}
 use Rattle.part.specs.Orders.{orderOf}
 
-user-order-requires : tie.Need-user-order-requires
-user-order-requires c κs = search needs
-
 returns : tie.Need-returns
 unfolding orderOf
 returns c = rw (eq-eqb _ 0x53 (c .before .if1 .taken)) (c .user-order .ensures)
-
-system-order-requires : tie.Need-system-order-requires
-system-order-requires c κs = search needs
 
 returns-2 : tie.Need-returns-2
 unfolding orderOf
 returns-2 c = rw (ne-eqb _ 0x53 (c .before .before .if1 .left), eq-eqb _ 0x57 (c .before .if2 .taken)) (c .system-order .ensures)
 
-alone-requires : tie.Need-alone-requires
-alone-requires c κs = search needs
-
 returns-3 : tie.Need-returns-3
 unfolding orderOf
 returns-3 c = rw (ne-eqb _ 0x53 (c .before .before .before .if1 .left), ne-eqb _ 0x57 (c .before .before .if2 .left), eq-eqb _ 0x51 (c .before .if3 .taken)) (c .alone .ensures)
-
-alone-requires-2 : tie.Need-alone-requires-2
-alone-requires-2 c κs = search needs
 
 returns-4 : tie.Need-returns-4
 unfolding orderOf
@@ -39,13 +27,5 @@ returns-5 c = rw (ne-eqb _ 0x53 (c .before .before .before .if1 .left), ne-eqb _
 pub order-of-spec : {M : Type 1} → statement M
 order-of-spec =
     tie.close
-    (tie.spec
-    user-order-requires
-    returns
-    system-order-requires
-    returns-2
-    alone-requires
-    returns-3
-    alone-requires-2
-    returns-4
-    returns-5)
+    (tie.spec (λ c κs. search needs) returns (λ c κs. search needs) returns-2 (λ c κs. search needs) returns-3
+    (λ c κs. search needs) returns-4 returns-5)

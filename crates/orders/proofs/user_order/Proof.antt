@@ -8,12 +8,6 @@ use Rattle.orders.proofs.Decoded.{user-dynamic, user-row}
 returns : tie.Need-returns
 returns c = simp (eq-eqb _ _ (c .if1 .taken))
 
-place-of-requires : tie.Need-place-of-requires
-place-of-requires c κs = search needs
-
-byte-at-requires : tie.Need-byte-at-requires
-byte-at-requires c κs = search needs
-
 returns-2 : tie.Need-returns-2
 returns-2 c = user-dynamic (now (c .before .before .before .before .before .args .sent)) (c .before .before .place-of .result) (c .byte-at .result) (c .before .before .place-of .ensures .0) (c .before .before .before .if1 .left) (c .byte-at .ensures) (c .before .if2 .taken)
 
@@ -21,5 +15,4 @@ returns-3 : tie.Need-returns-3
 returns-3 c = user-row (now (c .before .before .before .before .args .sent)) (c .before .place-of .result) 0 (c .before .place-of .ensures .0) (c .before .before .if1 .left) (c .if2 .left)
 
 pub user-order-spec : {M : Type 1} → statement M
-user-order-spec =
-    tie.close (tie.spec returns place-of-requires byte-at-requires returns-2 returns-3)
+user-order-spec = tie.close (tie.spec returns (λ c κs. search needs) (λ c κs. search needs) returns-2 returns-3)

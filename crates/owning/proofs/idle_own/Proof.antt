@@ -5,12 +5,6 @@ use mathlib.Core.Path.{refl}
 use Rattle.numbers.specs.Flat.{noCode}
 use Rattle.agreeing.proofs.Owns.{idleAt, by-code, idle-other}
 
-code-requires : tie.Need-code-requires
-code-requires c κs = search needs
-
-nowhere-requires : tie.Need-nowhere-requires
-nowhere-requires c κs = search needs
-
 returns : tie.Need-returns
 returns c = by-code (c .before .before .before .args .c) (c .before .before .before .args .p) (idleAt (c .before .before .before .args .c) (c .before .before .before .args .p)) 1 (c .before .code .result) noCode (c .before .before .before .args .tag) (c .nowhere .result) refl (c .before .code .ensures) (c .nowhere .ensures) (c .before .before .if1 .taken)
 
@@ -18,4 +12,4 @@ returns-2 : tie.Need-returns-2
 returns-2 c = idle-other (c .before .args .c) (c .before .args .p) (c .before .args .tag) (c .if1 .left)
 
 pub idle-own-spec : {M : Type 1} → statement M
-idle-own-spec = tie.close (tie.spec code-requires nowhere-requires returns returns-2)
+idle-own-spec = tie.close (tie.spec (λ c κs. search needs) (λ c κs. search needs) returns returns-2)

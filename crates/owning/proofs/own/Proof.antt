@@ -3,26 +3,14 @@ use Rattle.owning.proofs.own.Statement.{statement}
 use Rattle.owning.proofs.own.Tie as tie
 use borrow.Author.Tests.{lt-ltb, le-ltb}
 
-idle-own-requires : tie.Need-idle-own-requires
-idle-own-requires c κs = search needs
-
 returns : tie.Need-returns
 returns c = rw (lt-ltb (c .before .before .before .before .args .f .stage) 2 (c .before .if1 .taken)) (c .idle-own .ensures)
-
-start-own-requires : tie.Need-start-own-requires
-start-own-requires c κs = search needs
 
 returns-2 : tie.Need-returns-2
 returns-2 c = rw (le-ltb (c .before .before .before .before .before .args .f .stage) 2 (c .before .before .if1 .left), lt-ltb (c .before .before .before .before .before .args .f .stage) 8 (c .before .if2 .taken)) (c .start-own .ensures)
 
-whole-own-requires : tie.Need-whole-own-requires
-whole-own-requires c κs = search needs
-
 returns-3 : tie.Need-returns-3
 returns-3 c = rw (le-ltb (c .before .before .before .before .before .before .args .f .stage) 2 (c .before .before .before .if1 .left), le-ltb (c .before .before .before .before .before .before .args .f .stage) 8 (c .before .before .if2 .left), lt-ltb (c .before .before .before .before .before .before .args .f .stage) 14 (c .before .if3 .taken)) (c .whole-own .ensures)
-
-end-own-requires : tie.Need-end-own-requires
-end-own-requires c κs = search needs
 
 returns-4 : tie.Need-returns-4
 returns-4 c = rw (le-ltb (c .before .before .before .before .before .before .args .f .stage) 2 (c .before .before .before .if1 .left), le-ltb (c .before .before .before .before .before .before .args .f .stage) 8 (c .before .before .if2 .left), le-ltb (c .before .before .before .before .before .before .args .f .stage) 14 (c .before .if3 .left)) (c .end-own .ensures)
@@ -30,12 +18,5 @@ returns-4 c = rw (le-ltb (c .before .before .before .before .before .before .arg
 pub own-spec : {M : Type 1} → statement M
 own-spec =
     tie.close
-    (tie.spec
-    idle-own-requires
-    returns
-    start-own-requires
-    returns-2
-    whole-own-requires
-    returns-3
-    end-own-requires
-    returns-4)
+    (tie.spec (λ c κs. search needs) returns (λ c κs. search needs) returns-2 (λ c κs. search needs) returns-3
+    (λ c κs. search needs) returns-4)

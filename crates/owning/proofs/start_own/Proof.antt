@@ -6,59 +6,20 @@ use Rattle.numbers.specs.Flat.{noCode, setupCode, waitCode, switchCode}
 use Rattle.numbers.specs.From.{setupFrom, waitFrom, switchFrom}
 use Rattle.agreeing.proofs.Owns.{startAt, at-tag, by-code, start-other}
 
-code-requires : tie.Need-code-requires
-code-requires c κs = search needs
-
-nowhere-requires : tie.Need-nowhere-requires
-nowhere-requires c κs = search needs
-
 returns : tie.Need-returns
 returns c = by-code (c .before .before .before .args .c) (c .before .before .before .args .p) (startAt (c .before .before .before .args .c) (c .before .before .before .args .p)) 2 (c .before .code .result) noCode (c .before .before .before .args .tag) (c .nowhere .result) refl (c .before .code .ensures) (c .nowhere .ensures) (c .before .before .if1 .taken)
-
-setup-from-requires : tie.Need-setup-from-requires
-setup-from-requires c κs = search needs
-
-setup-code-requires : tie.Need-setup-code-requires
-setup-code-requires c κs = search needs
-
-nowhere-requires-2 : tie.Need-nowhere-requires-2
-nowhere-requires-2 c κs = search needs
 
 returns-2 : tie.Need-returns-2
 returns-2 c = by-code (c .before .before .before .before .before .args .c) (c .before .before .before .before .before .args .p) (startAt (c .before .before .before .before .before .args .c) (c .before .before .before .before .before .args .p)) 3 (c .before .setup-code .result) (setupCode (setupFrom (c .before .before .before .before .before .args .c))) (c .before .before .before .before .before .args .tag) (c .nowhere2 .result) refl (c .before .setup-code .ensures ∙ ap setupCode (c .before .before .setup-from .ensures)) (c .nowhere2 .ensures) (c .before .before .before .if2 .taken)
 
-wait-from-requires : tie.Need-wait-from-requires
-wait-from-requires c κs = search needs
-
-wait-code-requires : tie.Need-wait-code-requires
-wait-code-requires c κs = search needs
-
-nowhere-requires-3 : tie.Need-nowhere-requires-3
-nowhere-requires-3 c κs = search needs
-
 returns-3 : tie.Need-returns-3
 returns-3 c = by-code (c .before .before .before .before .before .before .args .c) (c .before .before .before .before .before .before .args .p) (startAt (c .before .before .before .before .before .before .args .c) (c .before .before .before .before .before .before .args .p)) 4 (c .before .wait-code .result) (waitCode 0 0 (waitFrom (c .before .before .before .before .before .before .args .c))) (c .before .before .before .before .before .before .args .tag) (c .nowhere3 .result) refl (c .before .wait-code .ensures ∙ ap (waitCode 0 0) (c .before .before .wait-from .ensures)) (c .nowhere3 .ensures) (c .before .before .before .if3 .taken)
-
-read-own-requires : tie.Need-read-own-requires
-read-own-requires c κs = search needs
 
 returns-4 : tie.Need-returns-4
 returns-4 c = at-tag (startAt (c .before .before .before .before .before .args .c) (c .before .before .before .before .before .args .p)) 5 (c .before .before .before .before .before .args .tag) (c .read-own .result) (c .before .if4 .taken) (c .read-own .ensures)
 
-write-own-requires : tie.Need-write-own-requires
-write-own-requires c κs = search needs
-
 returns-5 : tie.Need-returns-5
 returns-5 c = at-tag (startAt (c .before .before .before .before .before .before .args .c) (c .before .before .before .before .before .before .args .p)) 6 (c .before .before .before .before .before .before .args .tag) (c .write-own .result) (c .before .if5 .taken) (c .write-own .ensures)
-
-switch-from-requires : tie.Need-switch-from-requires
-switch-from-requires c κs = search needs
-
-switch-code-requires : tie.Need-switch-code-requires
-switch-code-requires c κs = search needs
-
-nowhere-requires-4 : tie.Need-nowhere-requires-4
-nowhere-requires-4 c κs = search needs
 
 returns-6 : tie.Need-returns-6
 returns-6 c = by-code (c .before .before .before .before .before .before .before .before .before .args .c) (c .before .before .before .before .before .before .before .before .before .args .p) (startAt (c .before .before .before .before .before .before .before .before .before .args .c) (c .before .before .before .before .before .before .before .before .before .args .p)) 7 (c .before .switch-code .result) (switchCode (switchFrom (c .before .before .before .before .before .before .before .before .before .args .c))) (c .before .before .before .before .before .before .before .before .before .args .tag) (c .nowhere4 .result) refl (c .before .switch-code .ensures ∙ ap switchCode (c .before .before .switch-from .ensures)) (c .nowhere4 .ensures) (c .before .before .before .if6 .taken)
@@ -69,24 +30,7 @@ returns-7 c = start-other (c .before .before .before .before .before .before .ar
 pub start-own-spec : {M : Type 1} → statement M
 start-own-spec =
     tie.close
-    (tie.spec
-    code-requires
-    nowhere-requires
-    returns
-    setup-from-requires
-    setup-code-requires
-    nowhere-requires-2
-    returns-2
-    wait-from-requires
-    wait-code-requires
-    nowhere-requires-3
-    returns-3
-    read-own-requires
-    returns-4
-    write-own-requires
-    returns-5
-    switch-from-requires
-    switch-code-requires
-    nowhere-requires-4
-    returns-6
-    returns-7)
+    (tie.spec (λ c κs. search needs) (λ c κs. search needs) returns (λ c κs. search needs) (λ c κs. search needs)
+    (λ c κs. search needs) returns-2 (λ c κs. search needs) (λ c κs. search needs) (λ c κs. search needs) returns-3
+    (λ c κs. search needs) returns-4 (λ c κs. search needs) returns-5 (λ c κs. search needs) (λ c κs. search needs)
+    (λ c κs. search needs) returns-6 returns-7)

@@ -11,22 +11,13 @@ use native.Mathlib.Omega.{arith}
 put-requires : tie.Need-put-requires
 put-requires c κs = let h = ap length (message-short (c .before .before .before .args .n) (c .before .if1 .taken)) in omega arith
 
-cast-put : tie.Need-cast-put
-cast-put c = search needs
-
 put-requires-2 : tie.Need-put-requires-2
 put-requires-2 c κs = let h = ap length (message-short (c .before .before .before .before .before .before .before .args .n) (c .before .before .before .before .before .if1 .taken)) in omega arith
-
-same-length : tie.Need-same-length
-same-length c = search needs
 
 returns : tie.Need-returns
 returns c =
     let h = ap length (message-short (c .before .before .before .before .before .before .before .before .before .before .args .n) (c .before .before .before .before .before .before .before .before .if1 .taken)) in
     rw (message-short (c .before .before .before .before .before .before .before .before .before .before .args .n) (c .before .before .before .before .before .before .before .before .if1 .taken)) (chain (omega arith) (c .before .before .before .before .before .before .put .ensures) (c .before .before .put2 .ensures))
-
-slice-aggregate-copy-to : tie.Need-slice-aggregate-copy-to
-slice-aggregate-copy-to c = search needs
 
 copy-to-requires : tie.Need-copy-to-requires
 unfolding be
@@ -36,9 +27,6 @@ put16-requires : tie.Need-put16-requires
 unfolding be
 put16-requires c κs = let h = ap length (message-long (c .before .before .before .before .before .before .before .before .args .n) (c .before .before .before .before .before .before .if1 .left)) in omega arith
 
-same-length-2 : tie.Need-same-length-2
-same-length-2 c = search needs
-
 returns-2 : tie.Need-returns-2
 unfolding be
 returns-2 c = let h = ap length (message-long (c .before .before .before .before .before .before .before .before .before .before .before .args .n) (c .before .before .before .before .before .before .before .before .before .if1 .left)) in
@@ -47,14 +35,5 @@ returns-2 c = let h = ap length (message-long (c .before .before .before .before
 pub put-message-head-spec : {M : Type 1} → statement M
 put-message-head-spec =
     tie.close
-    (tie.spec
-    put-requires
-    cast-put
-    put-requires-2
-    same-length
-    returns
-    slice-aggregate-copy-to
-    copy-to-requires
-    put16-requires
-    same-length-2
-    returns-2)
+    (tie.spec put-requires (λ c. search needs) put-requires-2 (λ c. search needs) returns (λ c. search needs)
+    copy-to-requires put16-requires (λ c. search needs) returns-2)

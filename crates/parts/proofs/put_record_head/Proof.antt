@@ -8,32 +8,20 @@ use mathlib.Core.Path.{ap}
 use lib.ListN.{length}
 use native.Mathlib.Omega.{arith}
 
-add-put : tie.Need-add-put
-add-put c = search needs
-
 put-requires : tie.Need-put-requires
 put-requires c κs = let h = ap length (record-short (c .before .before .before .args .format) (c .before .before .before .args .kind-len) (c .before .before .before .args .payload) (c .before .if1 .taken)) in omega arith
 
 put-requires-2 : tie.Need-put-requires-2
 put-requires-2 c κs = let h = ap length (record-short (c .before .before .before .before .before .before .before .args .format) (c .before .before .before .before .before .before .before .args .kind-len) (c .before .before .before .before .before .before .before .args .payload) (c .before .before .before .before .before .if1 .taken)) in omega arith
 
-cast-put : tie.Need-cast-put
-cast-put c = search needs
-
 put-requires-3 : tie.Need-put-requires-3
 put-requires-3 c κs = let h = ap length (record-short (c .before .before .before .before .before .before .before .before .before .before .before .args .format) (c .before .before .before .before .before .before .before .before .before .before .before .args .kind-len) (c .before .before .before .before .before .before .before .before .before .before .before .args .payload) (c .before .before .before .before .before .before .before .before .before .if1 .taken)) in omega arith
-
-same-length : tie.Need-same-length
-same-length c = search needs
 
 returns : tie.Need-returns
 returns c =
     let e = record-short (c .before .before .before .before .before .before .before .before .before .before .before .before .before .before .args .format) (c .before .before .before .before .before .before .before .before .before .before .before .before .before .before .args .kind-len) (c .before .before .before .before .before .before .before .before .before .before .before .before .before .before .args .payload) (c .before .before .before .before .before .before .before .before .before .before .before .before .if1 .taken) in
     let h = ap length e in
     rw e (chain (omega arith) (chain (omega arith) (c .before .before .before .before .before .before .before .before .before .before .put .ensures) (c .before .before .before .before .before .before .put2 .ensures)) (c .before .before .put3 .ensures))
-
-add-put-2 : tie.Need-add-put-2
-add-put-2 c = search needs
 
 put-requires-4 : tie.Need-put-requires-4
 unfolding be
@@ -47,9 +35,6 @@ put32-requires : tie.Need-put32-requires
 unfolding be
 put32-requires c κs = let h = ap length (record-long (c .before .before .before .before .before .before .before .before .before .before .before .args .format) (c .before .before .before .before .before .before .before .before .before .before .before .args .kind-len) (c .before .before .before .before .before .before .before .before .before .before .before .args .payload) (c .before .before .before .before .before .before .before .before .before .if1 .left)) in omega arith
 
-same-length-2 : tie.Need-same-length-2
-same-length-2 c = search needs
-
 returns-2 : tie.Need-returns-2
 unfolding be
 returns-2 c = let e = record-long (c .before .before .before .before .before .before .before .before .before .before .before .before .before .before .args .format) (c .before .before .before .before .before .before .before .before .before .before .before .before .before .before .args .kind-len) (c .before .before .before .before .before .before .before .before .before .before .before .before .before .before .args .payload) (c .before .before .before .before .before .before .before .before .before .before .before .before .if1 .left) in
@@ -59,17 +44,5 @@ returns-2 c = let e = record-long (c .before .before .before .before .before .be
 pub put-record-head-spec : {M : Type 1} → statement M
 put-record-head-spec =
     tie.close
-    (tie.spec
-    add-put
-    put-requires
-    put-requires-2
-    cast-put
-    put-requires-3
-    same-length
-    returns
-    add-put-2
-    put-requires-4
-    put-requires-5
-    put32-requires
-    same-length-2
-    returns-2)
+    (tie.spec (λ c. search needs) put-requires put-requires-2 (λ c. search needs) put-requires-3 (λ c. search needs)
+    returns (λ c. search needs) put-requires-4 put-requires-5 put32-requires (λ c. search needs) returns-2)

@@ -4,9 +4,6 @@ use Rattle.parts.proofs.record_len.Tie as tie
 use Rattle.layout.proofs.Sizes.{record-is}
 use native.Mathlib.Omega.{arith}
 
-head-len-requires : tie.Need-head-len-requires
-head-len-requires c κs = search needs
-
 add-result : tie.Need-add-result
 add-result c = let h = record-is (c .before .args .kind-len) (c .before .args .payload) in omega arith
 
@@ -17,4 +14,4 @@ returns : tie.Need-returns
 returns c = let h = record-is (c .before .args .kind-len) (c .before .args .payload) in omega arith
 
 pub record-len-spec : {M : Type 1} → statement M
-record-len-spec = tie.close (tie.spec head-len-requires add-result add-result-2 returns)
+record-len-spec = tie.close (tie.spec (λ c κs. search needs) add-result add-result-2 returns)

@@ -6,21 +6,6 @@ use Prim.Native.Nat.{ℕ, _-_}
 use native.Mathlib.Omega.{arith}
 use Rattle.part.specs.Part.{withBusy}
 
-cast-busy : tie.Need-cast-busy
-cast-busy c = search needs
-
-left-requires : tie.Need-left-requires
-left-requires c κs = search needs
-
-sub-left : tie.Need-sub-left
-sub-left c = search needs
-
-cast-left : tie.Need-cast-left
-cast-left c = search needs
-
-left-requires-2 : tie.Need-left-requires-2
-left-requires-2 c κs = search needs
-
 returns : tie.Need-returns
 returns c = let e : 0 ≡ c .before .before .before .args .r .busy - c .before .before .before .args .ms = omega arith in c .left .ensures ∙ ap (λ (n : ℕ). withBusy n (c .before .before .before .args .r)) e
 
@@ -30,4 +15,5 @@ returns-2 c = search needs
 pub wait-spec : {M : Type 1} → statement M
 wait-spec =
     tie.close
-    (tie.spec cast-busy left-requires sub-left cast-left left-requires-2 returns returns-2)
+    (tie.spec (λ c. search needs) (λ c κs. search needs) (λ c. search needs) (λ c. search needs)
+    (λ c κs. search needs) returns returns-2)

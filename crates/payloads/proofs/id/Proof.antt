@@ -8,16 +8,10 @@ use Rattle.pieces.specs.Parts.{partOf}
 use Rattle.pieces.proofs.Parts.{part-sat}
 use native.Mathlib.Omega.{arith}
 
-after-requires : tie.Need-after-requires
-after-requires c κs = search needs
-
-part-requires : tie.Need-part-requires
-part-requires c κs = search needs
-
 returns : tie.Need-returns
 returns c =
     let s = now (c .before .before .before .args .image) in
     c .part .ensures ∙ ap (λ (n : ℕ). partOf s n (c .before .before .before .args .r .«id_len»)) (c .before .after .ensures) ∙ part-sat s (c .before .before .before .args .r .kind + c .before .before .before .args .r .«kind_len») (c .before .before .before .args .r .«id_len») (omega arith)
 
 pub id-spec : {M : Type 1} → statement M
-id-spec = tie.close (tie.spec after-requires part-requires returns)
+id-spec = tie.close (tie.spec (λ c κs. search needs) (λ c κs. search needs) returns)

@@ -9,15 +9,6 @@ use Rattle.pieces.proofs.Parts.{part-sat}
 use Rattle.layout.specs.Lengths.{sat}
 use native.Mathlib.Omega.{arith}
 
-after-requires : tie.Need-after-requires
-after-requires c κs = search needs
-
-after-requires-2 : tie.Need-after-requires-2
-after-requires-2 c κs = search needs
-
-part-requires : tie.Need-part-requires
-part-requires c κs = search needs
-
 returns : tie.Need-returns
 returns c =
     let s = now (c .before .before .before .before .args .image) in
@@ -26,4 +17,4 @@ returns c =
     c .part .ensures ∙ ap (λ (n : ℕ). partOf s n (c .before .before .before .before .args .r .«payload_len»)) e ∙ part-sat s k (c .before .before .before .before .args .r .«payload_len») (omega arith)
 
 pub payload-spec : {M : Type 1} → statement M
-payload-spec = tie.close (tie.spec after-requires after-requires-2 part-requires returns)
+payload-spec = tie.close (tie.spec (λ c κs. search needs) (λ c κs. search needs) (λ c κs. search needs) returns)

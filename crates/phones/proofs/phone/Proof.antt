@@ -17,20 +17,11 @@ use Rattle.phones.proofs.Tests.{either}
 returns : tie.Need-returns
 returns c = (rw (ne-eqb _ 8192 (c .if1 .taken)), rw (ne-eqb _ 8192 (c .if1 .taken)))
 
-inside-requires : tie.Need-inside-requires
-inside-requires c κs = search needs
-
 copy-to-requires : tie.Need-copy-to-requires
 copy-to-requires c κs =
     let a = c .before .before .before .before .before .before .before .args in
     let h = leb-true (a .at + length (now (a .bytes))) 8192 (sym (c .before .before .inside .ensures) ∙ and-right (eqb (a .r .rf) 0) (c .before .before .inside .result) (c .before .if2 .taken)) in
     omega (arith, c .before .before .before .before .if1 .left)
-
-noted-requires : tie.Need-noted-requires
-noted-requires c κs = search needs
-
-same-length : tie.Need-same-length
-same-length c = search needs
 
 returns-2 : tie.Need-returns-2
 returns-2 c =
@@ -49,11 +40,5 @@ returns-3 c =
 pub phone-spec : {M : Type 1} → statement M
 phone-spec =
     tie.close
-    (tie.spec
-    returns
-    inside-requires
-    copy-to-requires
-    noted-requires
-    same-length
-    returns-2
+    (tie.spec returns (λ c κs. search needs) copy-to-requires (λ c κs. search needs) (λ c. search needs) returns-2
     returns-3)

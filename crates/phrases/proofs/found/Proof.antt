@@ -6,18 +6,9 @@ use Rattle.messages.proofs.Table.{known}
 use Rattle.phrases.proofs.found.Statement.{statement}
 use Rattle.phrases.proofs.found.Tie as tie
 
-slot-requires : tie.Need-slot-requires
-slot-requires c κs = search needs
-
-mul-result : tie.Need-mul-result
-mul-result c = search needs
-
-array-copy-out-result : tie.Need-array-copy-out-result
-array-copy-out-result c = search needs
-
 returns : tie.Need-returns
 unfolding messages lines told padded ascii
 returns c = let h = c .before .slot .ensures in known _ _ _ refl (h .0) (h .1)
 
 pub found-spec : {M : Type 1} → statement M
-found-spec = tie.close (tie.spec slot-requires mul-result array-copy-out-result returns)
+found-spec = tie.close (tie.spec (λ c κs. search needs) (λ c. search needs) (λ c. search needs) returns)

@@ -8,15 +8,6 @@ use Rattle.messages.proofs.Table.{short, widened}
 use Rattle.phrases.proofs.message.Statement.{statement}
 use Rattle.phrases.proofs.message.Tie as tie
 
-found-requires : tie.Need-found-requires
-found-requires c κs = search needs
-
-slice-aggregate-copy-to : tie.Need-slice-aggregate-copy-to
-slice-aggregate-copy-to c = search needs
-
-copy-to-requires : tie.Need-copy-to-requires
-copy-to-requires c κs = search needs
-
 returns : tie.Need-returns
 returns c =
     let m = c .before .before .before .before .before .before in (
@@ -25,4 +16,4 @@ returns c =
     )
 
 pub message-spec : {M : Type 1} → statement M
-message-spec = tie.close (tie.spec found-requires slice-aggregate-copy-to copy-to-requires returns)
+message-spec = tie.close (tie.spec (λ c κs. search needs) (λ c. search needs) (λ c κs. search needs) returns)

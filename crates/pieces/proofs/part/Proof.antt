@@ -8,44 +8,11 @@ use lib.ListN.{take, drop}
 use Rattle.pieces.proofs.Parts.{part-inside, part-outside}
 use native.Mathlib.Omega.{arith}
 
-sub-result : tie.Need-sub-result
-sub-result c = search needs
-
-part-result-start : tie.Need-part-result-start
-part-result-start c = search needs
-
-part-result-end : tie.Need-part-result-end
-part-result-end c = search needs
-
 returns : tie.Need-returns
 returns c = sym (part-outside (now (c .before .before .args .image)) (c .before .before .args .at) (c .before .before .args .len) (omega arith))
 
-sub-if2 : tie.Need-sub-if2
-sub-if2 c = search needs
-
-sub-result-2 : tie.Need-sub-result-2
-sub-result-2 c = search needs
-
-part-result-start-2 : tie.Need-part-result-start-2
-part-result-start-2 c = search needs
-
-part-result-end-2 : tie.Need-part-result-end-2
-part-result-end-2 c = search needs
-
 returns-2 : tie.Need-returns-2
 returns-2 c = sym (part-outside (now (c .before .before .before .args .image)) (c .before .before .before .args .at) (c .before .before .before .args .len) (omega arith))
-
-add-result : tie.Need-add-result
-add-result c = search needs
-
-sub-result-3 : tie.Need-sub-result-3
-sub-result-3 c = search needs
-
-part-result-start-3 : tie.Need-part-result-start-3
-part-result-start-3 c = search needs
-
-part-result-end-3 : tie.Need-part-result-end-3
-part-result-end-3 c = search needs
 
 returns-3 : tie.Need-returns-3
 returns-3 c =
@@ -55,18 +22,6 @@ returns-3 c =
 pub part-spec : {M : Type 1} → statement M
 part-spec =
     tie.close
-    (tie.spec
-    sub-result
-    part-result-start
-    part-result-end
-    returns
-    sub-if2
-    sub-result-2
-    part-result-start-2
-    part-result-end-2
-    returns-2
-    add-result
-    sub-result-3
-    part-result-start-3
-    part-result-end-3
-    returns-3)
+    (tie.spec (λ c. search needs) (λ c. search needs) (λ c. search needs) returns (λ c. search needs)
+    (λ c. search needs) (λ c. search needs) (λ c. search needs) returns-2 (λ c. search needs) (λ c. search needs)
+    (λ c. search needs) (λ c. search needs) returns-3)

@@ -14,9 +14,6 @@ returns c = let a = c .before .args in
     let h : length (now (a .image)) < a .at + a .len = omega arith in
     simp (lt-leb _ _ h)
 
-sub-if2 : tie.Need-sub-if2
-sub-if2 c = search needs
-
 returns-2 : tie.Need-returns-2
 unfolding partAt
 returns-2 c = let a = c .before .before .args in
@@ -30,4 +27,4 @@ returns-3 c = let a = c .before .before .args in
     simp (le-leb _ _ h)
 
 pub part-at-spec : {M : Type 1} → statement M
-part-at-spec = tie.close (tie.spec returns sub-if2 returns-2 returns-3)
+part-at-spec = tie.close (tie.spec returns (λ c. search needs) returns-2 returns-3)

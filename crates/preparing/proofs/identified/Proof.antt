@@ -2,9 +2,6 @@ use borrow.Author.Needs.{needs}
 use Rattle.preparing.proofs.identified.Statement.{statement}
 use Rattle.preparing.proofs.identified.Tie as tie
 
-is-the-part-requires : tie.Need-is-the-part-requires
-is-the-part-requires c κs = search needs
-
 returns : tie.Need-returns
 returns c = simp (c .before .before .if1 .taken, ← (c .before .is-the-part .ensures), c .if2 .taken)
 
@@ -15,4 +12,4 @@ returns-3 : tie.Need-returns-3
 returns-3 c = simp (c .if1 .left)
 
 pub identified-spec : {M : Type 1} → statement M
-identified-spec = tie.close (tie.spec is-the-part-requires returns returns-2 returns-3)
+identified-spec = tie.close (tie.spec (λ c κs. search needs) returns returns-2 returns-3)

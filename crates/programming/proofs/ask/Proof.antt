@@ -5,23 +5,11 @@ use mathlib.Core.Path.{subst}
 use Rattle.writing.specs.Write.{Inside}
 use native.Mathlib.Omega.{arith}
 
-enum-known-s : tie.Need-enum-known-s
-enum-known-s c = search needs
-
 add-t7 : tie.Need-add-t7
 add-t7 c = let h = subst (Inside (c .before .before .before .before .args .len)) (c .before .before .s .given .1) (c .before .before .before .before .pre) in omega (arith, h .0)
 
 piece-len-requires : tie.Need-piece-len-requires
 piece-len-requires c κs = let h = subst (Inside (c .before .before .before .before .args .len)) (c .before .before .s .given .1) (c .before .before .before .before .pre) in (h .0, h .1)
-
-enum-known-s-2 : tie.Need-enum-known-s-2
-enum-known-s-2 c = search needs
-
-ask-requires : tie.Need-ask-requires
-ask-requires c κs = search needs
-
-enum-known-s-3 : tie.Need-enum-known-s-3
-enum-known-s-3 c = search needs
 
 add-t9 : tie.Need-add-t9
 add-t9 c = let h = subst (Inside (c .before .before .before .before .args .len)) (c .before .before .s3 .given .1) (c .before .before .before .before .pre) in omega (arith, h .0)
@@ -41,15 +29,5 @@ returns-3 c = rw (c .before .before .before .s3 .given .1, ← (c .chunk-len .en
 pub ask-spec : {M : Type 1} → statement M
 ask-spec =
     tie.close
-    (tie.spec
-    enum-known-s
-    add-t7
-    piece-len-requires
-    enum-known-s-2
-    ask-requires
-    enum-known-s-3
-    add-t9
-    chunk-len-requires
-    returns
-    returns-2
-    returns-3)
+    (tie.spec (λ c. search needs) add-t7 piece-len-requires (λ c. search needs) (λ c κs. search needs)
+    (λ c. search needs) add-t9 chunk-len-requires returns returns-2 returns-3)

@@ -7,17 +7,8 @@ use Rattle.scan.proofs.Cutting.{row-most}
 use Prim.Native.Nat.{_+_, _-_}
 use native.Mathlib.Omega.{arith}
 
-check-new-requires : tie.Need-check-new-requires
-check-new-requires c κs = search needs
-
 returns : tie.Need-returns
 returns c = c .check-new .ensures ∙ last-piece (c .before .before .args .p) _ (c .before .if1 .taken)
-
-sub-t5 : tie.Need-sub-t5
-sub-t5 c = search needs
-
-piece-len-requires : tie.Need-piece-len-requires
-piece-len-requires c κs = search needs
 
 add-t7 : tie.Need-add-t7
 add-t7 c = omega (arith, row-most (c .before .before .before .args .p .start + c .before .before .before .args .p .done) (c .before .before .before .args .len - c .before .before .before .args .p .done) .1, c .before .piece-len .ensures)
@@ -27,4 +18,4 @@ returns-2 c = next-piece (c .before .before .before .args .p) _ _ (c .before .pi
 
 pub next-piece-spec : {M : Type 1} → statement M
 next-piece-spec =
-    tie.close (tie.spec check-new-requires returns sub-t5 piece-len-requires add-t7 returns-2)
+    tie.close (tie.spec (λ c κs. search needs) returns (λ c. search needs) (λ c κs. search needs) add-t7 returns-2)

@@ -6,23 +6,8 @@ use denote.Ref.{now}
 use lib.ListN.{length}
 use Rattle.writing.specs.Write.{Inside}
 
-enum-known-s : tie.Need-enum-known-s
-enum-known-s c = search needs
-
-row-step-requires : tie.Need-row-step-requires
-row-step-requires c κs = search needs
-
-enum-known-s-2 : tie.Need-enum-known-s-2
-enum-known-s-2 c = search needs
-
-step-requires : tie.Need-step-requires
-step-requires c κs = search needs
-
 waited-step-requires : tie.Need-waited-step-requires
 waited-step-requires c κs = subst (Inside (length (now (c .before .before .before .before .before .before .args .lent)))) (c .before .before .s2 .given .1) (c .before .before .before .before .before .before .pre .0)
-
-enum-known-s-3 : tie.Need-enum-known-s-3
-enum-known-s-3 c = search needs
 
 check-step-requires : tie.Need-check-step-requires
 check-step-requires c κs = let h = subst (Inside (length (now (c .before .before .before .before .before .args .lent)))) (c .before .s3 .given .1) (c .before .before .before .before .before .pre .0) in (h .1, h .2, c .before .before .before .before .before .pre .1)
@@ -39,14 +24,5 @@ returns-3 c = rw (c .before .before .s3 .given .1) (c .check-step .ensures)
 pub step-spec : {M : Type 1} → statement M
 step-spec =
     tie.close
-    (tie.spec
-    enum-known-s
-    row-step-requires
-    enum-known-s-2
-    step-requires
-    waited-step-requires
-    enum-known-s-3
-    check-step-requires
-    returns
-    returns-2
-    returns-3)
+    (tie.spec (λ c. search needs) (λ c κs. search needs) (λ c. search needs) (λ c κs. search needs)
+    waited-step-requires (λ c. search needs) check-step-requires returns returns-2 returns-3)

@@ -2,18 +2,6 @@ use borrow.Author.Needs.{needs}
 use Rattle.programming.proofs.waited_step.Statement.{statement}
 use Rattle.programming.proofs.waited_step.Tie as tie
 
-enum-known-w : tie.Need-enum-known-w
-enum-known-w c = search needs
-
-enum-told : tie.Need-enum-told
-enum-told c = search needs
-
-next-piece-requires : tie.Need-next-piece-requires
-next-piece-requires c κs = search needs
-
-enum-told-2 : tie.Need-enum-told-2
-enum-told-2 c = search needs
-
 returns : tie.Need-returns
 returns c = rw (c .before .w .given .1)
 
@@ -26,4 +14,5 @@ returns-3 c = rw (c .enum-told2 .given .1)
 pub waited-step-spec : {M : Type 1} → statement M
 waited-step-spec =
     tie.close
-    (tie.spec enum-known-w enum-told next-piece-requires enum-told-2 returns returns-2 returns-3)
+    (tie.spec (λ c. search needs) (λ c. search needs) (λ c κs. search needs) (λ c. search needs) returns returns-2
+    returns-3)

@@ -4,9 +4,6 @@ use Rattle.ranged.proofs.widened.Tie as tie
 use native.Mathlib.Omega.{arith}
 use Rattle.protocol.specs.Mark.{widened}
 
-add-end : tie.Need-add-end
-add-end c = search needs
-
 returns : tie.Need-returns
 unfolding widened
 returns c = omega (arith, c .if1 .taken)
@@ -16,4 +13,4 @@ unfolding widened
 returns-2 c = omega (arith, c .if1 .left)
 
 pub widened-spec : {M : Type 1} → statement M
-widened-spec = tie.close (tie.spec add-end returns returns-2)
+widened-spec = tie.close (tie.spec (λ c. search needs) returns returns-2)

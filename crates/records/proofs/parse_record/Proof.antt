@@ -15,27 +15,15 @@ use native.Mathlib.Omega.{arith}
 returns : tie.Need-returns
 returns c = none (now (c .before .before .args .bytes)) (c .if1 .taken)
 
-shared-slice-read-h : tie.Need-shared-slice-read-h
-shared-slice-read-h c = search needs
-
 returns-2 : tie.Need-returns-2
 unfolding parseOf
 returns-2 c = simp (eq-eqb _ _ (c .if2 .taken))
-
-head-len-requires : tie.Need-head-len-requires
-head-len-requires c κs = search needs
 
 returns-3 : tie.Need-returns-3
 unfolding parseOf
 returns-3 c = let s = now (c .before .before .before .before .before .before .args .bytes) in
     let h : length s < headLen (getD s 0 0) = omega arith in
     simp (ne-eqb _ _ (c .before .before .if2 .left), lt-ltb _ _ h)
-
-id-len-requires : tie.Need-id-len-requires
-id-len-requires c κs = search needs
-
-payload-len-requires : tie.Need-payload-len-requires
-payload-len-requires c κs = search needs
 
 shared-slice-read-wide : tie.Need-shared-slice-read-wide
 shared-slice-read-wide c = omega (arith, head-least (getD (now (c .before .before .before .before .before .before .before .before .before .args .bytes)) 0 0), c .before .before .before .before .head-len .ensures .0)
@@ -56,15 +44,5 @@ returns-4 c =
 pub parse-record-spec : {M : Type 1} → statement M
 parse-record-spec =
     tie.close
-    (tie.spec
-    returns
-    shared-slice-read-h
-    returns-2
-    head-len-requires
-    returns-3
-    id-len-requires
-    payload-len-requires
-    shared-slice-read-wide
-    wide-requires
-    whole-requires
-    returns-4)
+    (tie.spec returns (λ c. search needs) returns-2 (λ c κs. search needs) returns-3 (λ c κs. search needs)
+    (λ c κs. search needs) shared-slice-read-wide wide-requires whole-requires returns-4)

@@ -11,53 +11,14 @@ use Rattle.entry.proofs.Calls.{leaves-as}
 clean-of-requires : tie.Need-clean-of-requires
 clean-of-requires c κs = let p = c .before .before .before .before .before .before .before .before in let h = sweep-may (length (now (p .args .state))) (p .args .ack) (length (now (p .args .transfer))) (length (now (p .args .reply))) (length (now (p .args .lent))) (length (now (p .args .out))) (c .before .before .if1 .taken) in (h .0, h .3)
 
-enum-known-n : tie.Need-enum-known-n
-enum-known-n c = search needs
-
 sweep-requires : tie.Need-sweep-requires
 sweep-requires c κs = let p = c .before .before .before .before .before .before .before .before .before .before .before .before .before .before in let h = sweep-may (length (now (p .args .state))) (p .args .ack) (length (now (p .args .transfer))) (length (now (p .args .reply))) (length (now (p .args .lent))) (length (now (p .args .out))) (c .before .before .before .before .before .before .before .before .if1 .taken) in (h .0, h .2)
-
-enum-told : tie.Need-enum-told
-enum-told c = search needs
-
-by-way-requires : tie.Need-by-way-requires
-by-way-requires c κs = search needs
-
-same-length : tie.Need-same-length
-same-length c = search needs
-
-same-length-2 : tie.Need-same-length-2
-same-length-2 c = search needs
-
-same-length-3 : tie.Need-same-length-3
-same-length-3 c = search needs
 
 returns : tie.Need-returns
 returns c = let p = c .before .before .before .before .before .before .before .before .before .before .before .before .before .before .before .before .before .before .before in let h = sweep-may (length (now (p .args .state))) (p .args .ack) (length (now (p .args .transfer))) (length (now (p .args .reply))) (length (now (p .args .lent))) (length (now (p .args .out))) (c .before .before .before .before .before .before .before .before .before .before .before .before .before .if1 .taken) in let g = subst (Clean (now (p .args .state)) (now (p .args .reply))) (c .before .before .before .before .before .before .before .before .n .given .1) (c .before .before .before .before .before .before .before .before .before .before .clean-of .ensures) in leaves-as _ _ (sym (g (now (p .args .transfer)) (now (p .args .lent)) (now (p .args .out)) (p .args .ack) (h .2) (h .4) (h .5) (h .1))) _ _ _ _ (record { step = c .before .before .before .before .sweep .ensures .0; state = c .before .before .before .before .sweep .ensures .1 .0; transfer = c .before .before .before .before .sweep .ensures .1 .1; reply = refl })
 
-same-length-4 : tie.Need-same-length-4
-same-length-4 c = search needs
-
-same-length-5 : tie.Need-same-length-5
-same-length-5 c = search needs
-
-same-length-6 : tie.Need-same-length-6
-same-length-6 c = search needs
-
 returns-2 : tie.Need-returns-2
 returns-2 c = c .before .before .before .before .before .before .by-way .ensures
-
-by-way-requires-2 : tie.Need-by-way-requires-2
-by-way-requires-2 c κs = search needs
-
-same-length-7 : tie.Need-same-length-7
-same-length-7 c = search needs
-
-same-length-8 : tie.Need-same-length-8
-same-length-8 c = search needs
-
-same-length-9 : tie.Need-same-length-9
-same-length-9 c = search needs
 
 returns-3 : tie.Need-returns-3
 returns-3 c = c .before .before .before .before .before .before .by-way2 .ensures
@@ -65,22 +26,7 @@ returns-3 c = c .before .before .before .before .before .before .by-way2 .ensure
 pub reply-spec : {M : Type 1} → statement M
 reply-spec =
     tie.close
-    (tie.spec
-    clean-of-requires
-    enum-known-n
-    sweep-requires
-    enum-told
-    by-way-requires
-    same-length
-    same-length-2
-    same-length-3
-    returns
-    same-length-4
-    same-length-5
-    same-length-6
-    returns-2
-    by-way-requires-2
-    same-length-7
-    same-length-8
-    same-length-9
+    (tie.spec clean-of-requires (λ c. search needs) sweep-requires (λ c. search needs) (λ c κs. search needs)
+    (λ c. search needs) (λ c. search needs) (λ c. search needs) returns (λ c. search needs) (λ c. search needs)
+    (λ c. search needs) returns-2 (λ c κs. search needs) (λ c. search needs) (λ c. search needs) (λ c. search needs)
     returns-3)

@@ -6,20 +6,11 @@ use borrow.Author.Tests.{lt-ltb, le-ltb}
 returns : tie.Need-returns
 returns c = rw (lt-ltb (c .before .args .tag) 2 (c .if1 .taken))
 
-start-from-requires : tie.Need-start-from-requires
-start-from-requires c κs = search needs
-
 returns-2 : tie.Need-returns-2
 returns-2 c = rw (le-ltb (c .before .before .before .args .tag) 2 (c .before .before .if1 .left), lt-ltb (c .before .before .before .args .tag) 8 (c .before .if2 .taken), ← (c .start-from .ensures))
 
-whole-from-requires : tie.Need-whole-from-requires
-whole-from-requires c κs = search needs
-
 returns-3 : tie.Need-returns-3
 returns-3 c = rw (le-ltb (c .before .before .before .before .args .tag) 2 (c .before .before .before .if1 .left), le-ltb (c .before .before .before .before .args .tag) 8 (c .before .before .if2 .left), lt-ltb (c .before .before .before .before .args .tag) 14 (c .before .if3 .taken), ← (c .whole-from .ensures))
-
-end-from-requires : tie.Need-end-from-requires
-end-from-requires c κs = search needs
 
 returns-4 : tie.Need-returns-4
 returns-4 c = rw (le-ltb (c .before .before .before .before .args .tag) 2 (c .before .before .before .if1 .left), le-ltb (c .before .before .before .before .args .tag) 8 (c .before .before .if2 .left), le-ltb (c .before .before .before .before .args .tag) 14 (c .before .if3 .left), ← (c .end-from .ensures))
@@ -27,11 +18,5 @@ returns-4 c = rw (le-ltb (c .before .before .before .before .args .tag) 2 (c .be
 pub now-from-spec : {M : Type 1} → statement M
 now-from-spec =
     tie.close
-    (tie.spec
-    returns
-    start-from-requires
-    returns-2
-    whole-from-requires
-    returns-3
-    end-from-requires
+    (tie.spec returns (λ c κs. search needs) returns-2 (λ c κs. search needs) returns-3 (λ c κs. search needs)
     returns-4)

@@ -9,11 +9,8 @@ returns c = rw (eq-eqb (c .before .before .args .c .inner) 3 (c .if1 .taken))
 returns-2 : tie.Need-returns-2
 returns-2 c = rw (ne-eqb (c .before .before .before .before .args .c .inner) 3 (c .before .before .if1 .left), eq-eqb (c .before .before .before .before .args .c .inner) 4 (c .if2 .taken))
 
-wait-from-requires : tie.Need-wait-from-requires
-wait-from-requires c κs = search needs
-
 returns-3 : tie.Need-returns-3
 returns-3 c = rw (ne-eqb (c .before .before .before .before .before .args .c .inner) 3 (c .before .before .before .if1 .left), ne-eqb (c .before .before .before .before .before .args .c .inner) 4 (c .before .if2 .left), ← (c .wait-from .ensures))
 
 pub open-from-spec : {M : Type 1} → statement M
-open-from-spec = tie.close (tie.spec returns returns-2 wait-from-requires returns-3)
+open-from-spec = tie.close (tie.spec returns returns-2 (λ c κs. search needs) returns-3)

@@ -12,17 +12,8 @@ returns-2 c = rw (ne-eqb (c .before .before .before .before .args .c .phase) 1 (
 returns-3 : tie.Need-returns-3
 returns-3 c = rw (ne-eqb (c .before .before .before .before .before .before .args .c .phase) 1 (c .before .before .before .before .if1 .left), ne-eqb (c .before .before .before .before .before .before .args .c .phase) 2 (c .before .before .if2 .left), eq-eqb (c .before .before .before .before .before .before .args .c .phase) 3 (c .if3 .taken))
 
-open-from-requires : tie.Need-open-from-requires
-open-from-requires c κs = search needs
-
 returns-4 : tie.Need-returns-4
 returns-4 c = rw (ne-eqb (c .before .before .before .before .before .before .before .before .before .before .args .c .phase) 1 (c .before .before .before .before .before .before .before .before .if1 .left), ne-eqb (c .before .before .before .before .before .before .before .before .before .before .args .c .phase) 2 (c .before .before .before .before .before .before .if2 .left), ne-eqb (c .before .before .before .before .before .before .before .before .before .before .args .c .phase) 3 (c .before .before .before .before .if3 .left), eq-eqb (c .before .before .before .before .before .before .before .before .before .before .args .c .phase) 4 (c .before .before .if4 .taken), ← (c .open-from .ensures))
-
-job-from-requires : tie.Need-job-from-requires
-job-from-requires c κs = search needs
-
-store-from-requires : tie.Need-store-from-requires
-store-from-requires c κs = search needs
 
 returns-5 : tie.Need-returns-5
 returns-5 c = rw (ne-eqb (c .before .before .before .before .before .before .before .before .before .before .args .c .phase) 1 (c .before .before .before .before .before .before .before .before .if1 .left), ne-eqb (c .before .before .before .before .before .before .before .before .before .before .args .c .phase) 2 (c .before .before .before .before .before .before .if2 .left), ne-eqb (c .before .before .before .before .before .before .before .before .before .before .args .c .phase) 3 (c .before .before .before .before .if3 .left), ne-eqb (c .before .before .before .before .before .before .before .before .before .before .args .c .phase) 4 (c .before .before .if4 .left), ← (c .before .job-from .ensures), ← (c .store-from .ensures))
@@ -30,12 +21,5 @@ returns-5 c = rw (ne-eqb (c .before .before .before .before .before .before .bef
 pub setup-from-spec : {M : Type 1} → statement M
 setup-from-spec =
     tie.close
-    (tie.spec
-    returns
-    returns-2
-    returns-3
-    open-from-requires
-    returns-4
-    job-from-requires
-    store-from-requires
-    returns-5)
+    (tie.spec returns returns-2 returns-3 (λ c κs. search needs) returns-4 (λ c κs. search needs)
+    (λ c κs. search needs) returns-5)

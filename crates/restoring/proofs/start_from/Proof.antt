@@ -6,14 +6,8 @@ use borrow.Author.Tests.{eq-eqb, ne-eqb}
 returns : tie.Need-returns
 returns c = rw (eq-eqb (c .before .args .tag) 2 (c .if1 .taken))
 
-setup-from-requires : tie.Need-setup-from-requires
-setup-from-requires c κs = search needs
-
 returns-2 : tie.Need-returns-2
 returns-2 c = rw (ne-eqb (c .before .before .before .args .tag) 2 (c .before .before .if1 .left), eq-eqb (c .before .before .before .args .tag) 3 (c .before .if2 .taken), ← (c .setup-from .ensures))
-
-wait-from-requires : tie.Need-wait-from-requires
-wait-from-requires c κs = search needs
 
 returns-3 : tie.Need-returns-3
 returns-3 c = rw (ne-eqb (c .before .before .before .before .args .tag) 2 (c .before .before .before .if1 .left), ne-eqb (c .before .before .before .before .args .tag) 3 (c .before .before .if2 .left), eq-eqb (c .before .before .before .before .args .tag) 4 (c .before .if3 .taken), ← (c .wait-from .ensures))
@@ -21,14 +15,8 @@ returns-3 c = rw (ne-eqb (c .before .before .before .before .args .tag) 2 (c .be
 returns-4 : tie.Need-returns-4
 returns-4 c = rw (ne-eqb (c .before .before .before .before .args .tag) 2 (c .before .before .before .if1 .left), ne-eqb (c .before .before .before .before .args .tag) 3 (c .before .before .if2 .left), ne-eqb (c .before .before .before .before .args .tag) 4 (c .before .if3 .left), eq-eqb (c .before .before .before .before .args .tag) 5 (c .if4 .taken))
 
-write-from-requires : tie.Need-write-from-requires
-write-from-requires c κs = search needs
-
 returns-5 : tie.Need-returns-5
 returns-5 c = rw (ne-eqb (c .before .before .before .before .before .before .args .tag) 2 (c .before .before .before .before .before .if1 .left), ne-eqb (c .before .before .before .before .before .before .args .tag) 3 (c .before .before .before .before .if2 .left), ne-eqb (c .before .before .before .before .before .before .args .tag) 4 (c .before .before .before .if3 .left), ne-eqb (c .before .before .before .before .before .before .args .tag) 5 (c .before .before .if4 .left), eq-eqb (c .before .before .before .before .before .before .args .tag) 6 (c .before .if5 .taken), ← (c .write-from .ensures))
-
-switch-from-requires : tie.Need-switch-from-requires
-switch-from-requires c κs = search needs
 
 returns-6 : tie.Need-returns-6
 returns-6 c = rw (ne-eqb (c .before .before .before .before .before .before .args .tag) 2 (c .before .before .before .before .before .if1 .left), ne-eqb (c .before .before .before .before .before .before .args .tag) 3 (c .before .before .before .before .if2 .left), ne-eqb (c .before .before .before .before .before .before .args .tag) 4 (c .before .before .before .if3 .left), ne-eqb (c .before .before .before .before .before .before .args .tag) 5 (c .before .before .if4 .left), ne-eqb (c .before .before .before .before .before .before .args .tag) 6 (c .before .if5 .left), ← (c .switch-from .ensures))
@@ -36,14 +24,5 @@ returns-6 c = rw (ne-eqb (c .before .before .before .before .before .before .arg
 pub start-from-spec : {M : Type 1} → statement M
 start-from-spec =
     tie.close
-    (tie.spec
-    returns
-    setup-from-requires
-    returns-2
-    wait-from-requires
-    returns-3
-    returns-4
-    write-from-requires
-    returns-5
-    switch-from-requires
-    returns-6)
+    (tie.spec returns (λ c κs. search needs) returns-2 (λ c κs. search needs) returns-3 returns-4
+    (λ c κs. search needs) returns-5 (λ c κs. search needs) returns-6)

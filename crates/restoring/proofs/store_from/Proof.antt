@@ -12,11 +12,8 @@ returns-2 c = rw (ne-eqb (c .before .before .before .before .args .c .inner) 3 (
 returns-3 : tie.Need-returns-3
 returns-3 c = rw (ne-eqb (c .before .before .before .before .before .before .args .c .inner) 3 (c .before .before .before .before .if1 .left), ne-eqb (c .before .before .before .before .before .before .args .c .inner) 4 (c .before .before .if2 .left), eq-eqb (c .before .before .before .before .before .before .args .c .inner) 5 (c .if3 .taken))
 
-wait-from-requires : tie.Need-wait-from-requires
-wait-from-requires c κs = search needs
-
 returns-4 : tie.Need-returns-4
 returns-4 c = rw (ne-eqb (c .before .before .before .before .before .before .before .args .c .inner) 3 (c .before .before .before .before .before .if1 .left), ne-eqb (c .before .before .before .before .before .before .before .args .c .inner) 4 (c .before .before .before .if2 .left), ne-eqb (c .before .before .before .before .before .before .before .args .c .inner) 5 (c .before .if3 .left), ← (c .wait-from .ensures))
 
 pub store-from-spec : {M : Type 1} → statement M
-store-from-spec = tie.close (tie.spec returns returns-2 returns-3 wait-from-requires returns-4)
+store-from-spec = tie.close (tie.spec returns returns-2 returns-3 (λ c κs. search needs) returns-4)

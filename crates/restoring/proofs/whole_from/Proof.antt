@@ -6,9 +6,6 @@ use borrow.Author.Tests.{eq-eqb, ne-eqb}
 returns : tie.Need-returns
 returns c = rw (eq-eqb (c .before .args .tag) 8 (c .if1 .taken))
 
-switch-from-requires : tie.Need-switch-from-requires
-switch-from-requires c κs = search needs
-
 returns-2 : tie.Need-returns-2
 returns-2 c = rw (ne-eqb (c .before .before .before .args .tag) 8 (c .before .before .if1 .left), eq-eqb (c .before .before .before .args .tag) 9 (c .before .if2 .taken), ← (c .switch-from .ensures))
 
@@ -18,14 +15,8 @@ returns-3 c = rw (ne-eqb (c .before .before .before .args .tag) 8 (c .before .be
 returns-4 : tie.Need-returns-4
 returns-4 c = rw (ne-eqb (c .before .before .before .before .args .tag) 8 (c .before .before .before .if1 .left), ne-eqb (c .before .before .before .before .args .tag) 9 (c .before .before .if2 .left), ne-eqb (c .before .before .before .before .args .tag) 10 (c .before .if3 .left), eq-eqb (c .before .before .before .before .args .tag) 11 (c .if4 .taken))
 
-scrub-from-requires : tie.Need-scrub-from-requires
-scrub-from-requires c κs = search needs
-
 returns-5 : tie.Need-returns-5
 returns-5 c = rw (ne-eqb (c .before .before .before .before .before .before .args .tag) 8 (c .before .before .before .before .before .if1 .left), ne-eqb (c .before .before .before .before .before .before .args .tag) 9 (c .before .before .before .before .if2 .left), ne-eqb (c .before .before .before .before .before .before .args .tag) 10 (c .before .before .before .if3 .left), ne-eqb (c .before .before .before .before .before .before .args .tag) 11 (c .before .before .if4 .left), eq-eqb (c .before .before .before .before .before .before .args .tag) 12 (c .before .if5 .taken), ← (c .scrub-from .ensures))
-
-setup-from-requires : tie.Need-setup-from-requires
-setup-from-requires c κs = search needs
 
 returns-6 : tie.Need-returns-6
 returns-6 c = rw (ne-eqb (c .before .before .before .before .before .before .args .tag) 8 (c .before .before .before .before .before .if1 .left), ne-eqb (c .before .before .before .before .before .before .args .tag) 9 (c .before .before .before .before .if2 .left), ne-eqb (c .before .before .before .before .before .before .args .tag) 10 (c .before .before .before .if3 .left), ne-eqb (c .before .before .before .before .before .before .args .tag) 11 (c .before .before .if4 .left), ne-eqb (c .before .before .before .before .before .before .args .tag) 12 (c .before .if5 .left), ← (c .setup-from .ensures))
@@ -33,13 +24,5 @@ returns-6 c = rw (ne-eqb (c .before .before .before .before .before .before .arg
 pub whole-from-spec : {M : Type 1} → statement M
 whole-from-spec =
     tie.close
-    (tie.spec
-    returns
-    switch-from-requires
-    returns-2
-    returns-3
-    returns-4
-    scrub-from-requires
-    returns-5
-    setup-from-requires
-    returns-6)
+    (tie.spec returns (λ c κs. search needs) returns-2 returns-3 returns-4 (λ c κs. search needs) returns-5
+    (λ c κs. search needs) returns-6)

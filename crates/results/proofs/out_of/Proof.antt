@@ -3,18 +3,6 @@ use Rattle.results.proofs.out_of.Statement.{statement}
 use Rattle.results.proofs.out_of.Tie as tie
 use Rattle.results.proofs.Others.{others}
 
-enum-known-st : tie.Need-enum-known-st
-enum-known-st c = search needs
-
-enum-told : tie.Need-enum-told
-enum-told c = search needs
-
-enum-told-2 : tie.Need-enum-told-2
-enum-told-2 c = search needs
-
-enum-told-3 : tie.Need-enum-told-3
-enum-told-3 c = search needs
-
 returns : tie.Need-returns
 returns c = rw (c .before .st .given .1)
 
@@ -33,4 +21,5 @@ returns-5 c = others (c .before .args .st) (c .match .keys5)
 pub out-of-spec : {M : Type 1} → statement M
 out-of-spec =
     tie.close
-    (tie.spec enum-known-st enum-told enum-told-2 enum-told-3 returns returns-2 returns-3 returns-4 returns-5)
+    (tie.spec (λ c. search needs) (λ c. search needs) (λ c. search needs) (λ c. search needs) returns returns-2
+    returns-3 returns-4 returns-5)

@@ -18,21 +18,9 @@ frame-requires : tie.Need-frame-requires
 unfolding StageFits
 frame-requires c κs = subst (AskFits (length (now (c .before .before .before .before .args .lent)))) (sym (c .before .stage-ask .ensures)) (c .before .before .before .before .pre .1 .1)
 
-slice-aggregate-write-frame : tie.Need-slice-aggregate-write-frame
-slice-aggregate-write-frame c = search needs
-
-write-frame-requires : tie.Need-write-frame-requires
-write-frame-requires c κs = search needs
-
-into-out-requires : tie.Need-into-out-requires
-into-out-requires c κs = search needs
-
 ask-step-requires : tie.Need-ask-step-requires
 unfolding StageFits
 ask-step-requires c κs = subst (AskFits 8192) (sym (c .before .before .before .before .before .before .before .stage-ask .ensures)) (fits-part (length (now (c .before .before .before .before .before .before .before .before .before .before .args .lent))) (stageAsk (length (now (c .before .before .before .before .before .before .before .before .before .before .args .lent))) (c .before .before .before .before .before .before .before .before .before .before .args .st)) (c .before .before .before .before .before .before .before .before .before .before .pre .1 .2) (c .before .before .before .before .before .before .before .before .before .before .pre .1 .1))
-
-same-length : tie.Need-same-length
-same-length c = search needs
 
 returns : tie.Need-returns
 unfolding StageFits
@@ -41,12 +29,5 @@ returns c = asked (now (c .before .before .before .before .before .before .befor
 pub ask-spec : {M : Type 1} → statement M
 ask-spec =
     tie.close
-    (tie.spec
-    stage-ask-requires
-    frame-requires
-    slice-aggregate-write-frame
-    write-frame-requires
-    into-out-requires
-    ask-step-requires
-    same-length
-    returns)
+    (tie.spec stage-ask-requires frame-requires (λ c. search needs) (λ c κs. search needs) (λ c κs. search needs)
+    ask-step-requires (λ c. search needs) returns)

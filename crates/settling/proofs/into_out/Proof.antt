@@ -3,12 +3,6 @@ use Rattle.settling.proofs.into_out.Statement.{statement}
 use Rattle.settling.proofs.into_out.Tie as tie
 use Rattle.settling.proofs.Others.{others}
 
-enum-told : tie.Need-enum-told
-enum-told c = search needs
-
-enum-told-2 : tie.Need-enum-told-2
-enum-told-2 c = search needs
-
 returns : tie.Need-returns
 returns c = rw (c .enum-told .given .1)
 
@@ -19,4 +13,4 @@ returns-3 : tie.Need-returns-3
 returns-3 c = others (c .before .args .st) (c .match .keys3)
 
 pub into-out-spec : {M : Type 1} → statement M
-into-out-spec = tie.close (tie.spec enum-told enum-told-2 returns returns-2 returns-3)
+into-out-spec = tie.close (tie.spec (λ c. search needs) (λ c. search needs) returns returns-2 returns-3)

@@ -7,45 +7,12 @@ use lib.ListN.{length}
 use Rattle.telling.specs.Fit.{TurnFits}
 use Rattle.settling.proofs.Settles.{settles, stored}
 
-entered-requires : tie.Need-entered-requires
-entered-requires c κs = search needs
-
-store-requires : tie.Need-store-requires
-store-requires c κs = search needs
-
-enum-known-t : tie.Need-enum-known-t
-enum-known-t c = search needs
-
 ask-requires : tie.Need-ask-requires
 unfolding TurnFits
 ask-requires c κs = (c .before .before .before .before .before .before .before .before .before .before .before .before .before .pre .1, subst (TurnFits (length (now (c .before .before .before .before .before .before .before .before .before .before .before .before .before .args .lent)))) (c .before .before .t .given .1) (c .before .before .before .before .before .before .before .before .before .before .before .before .before .pre .4))
 
-enum-known-t-2 : tie.Need-enum-known-t-2
-enum-known-t-2 c = search needs
-
-clear-requires : tie.Need-clear-requires
-clear-requires c κs = search needs
-
-answer-requires : tie.Need-answer-requires
-answer-requires c κs = search needs
-
-same-length : tie.Need-same-length
-same-length c = search needs
-
-same-length-2 : tie.Need-same-length-2
-same-length-2 c = search needs
-
 returns : tie.Need-returns
 returns c = settles (now (c .before .before .before .before .before .before .before .before .before .before .before .before .before .before .before .before .args .lent)) (c .before .before .before .before .before .before .before .before .before .before .before .before .before .before .before .before .args .rows) (c .before .before .before .before .before .before .before .before .before .before .before .before .before .before .before .before .args .t) _ (c .before .before .before .before .before .t .given .1) (now (c .before .before .before .before .before .before .before .before .before .before .before .before .before .before .before .before .args .transfer)) (now (c .before .before .before .before .before .before .before .before .before .before .before .before .before .before .before .before .args .reply)) _ _ _ _ (record { step = c .before .before .ask .ensures .0; state = stored (now (c .before .before .before .before .before .before .before .before .before .before .before .before .before .before .before .before .args .lent)) (c .before .before .before .before .before .before .before .before .before .before .before .before .before .before .before .before .args .rows) (c .before .before .before .before .before .before .before .before .before .before .before .before .before .before .before .before .args .t) _ (c .before .before .before .before .before .t .given .1) (now (c .before .before .before .before .before .before .before .before .before .before .before .before .before .before .before .before .args .transfer)) (now (c .before .before .before .before .before .before .before .before .before .before .before .before .before .before .before .before .args .reply)) _ (c .before .before .before .before .before .before .before .before .before .before .entered .result) (c .before .before .before .before .before .before .before .before .before .store .ensures) (c .before .before .before .before .before .before .before .before .before .before .entered .ensures); transfer = c .before .before .ask .ensures .1; reply = refl })
-
-same-length-3 : tie.Need-same-length-3
-same-length-3 c = search needs
-
-same-length-4 : tie.Need-same-length-4
-same-length-4 c = search needs
-
-same-length-5 : tie.Need-same-length-5
-same-length-5 c = search needs
 
 returns-2 : tie.Need-returns-2
 returns-2 c = settles (now (c .before .before .before .before .before .before .before .before .before .before .before .before .before .before .before .before .before .before .before .before .args .lent)) (c .before .before .before .before .before .before .before .before .before .before .before .before .before .before .before .before .before .before .before .before .args .rows) (c .before .before .before .before .before .before .before .before .before .before .before .before .before .before .before .before .before .before .before .before .args .t) _ (c .before .before .before .before .before .before .before .before .before .t2 .given .1) (now (c .before .before .before .before .before .before .before .before .before .before .before .before .before .before .before .before .before .before .before .before .args .transfer)) (now (c .before .before .before .before .before .before .before .before .before .before .before .before .before .before .before .before .before .before .before .before .args .reply)) _ _ _ _ (record { step = c .answer .ensures; state = stored (now (c .before .before .before .before .before .before .before .before .before .before .before .before .before .before .before .before .before .before .before .before .args .lent)) (c .before .before .before .before .before .before .before .before .before .before .before .before .before .before .before .before .before .before .before .before .args .rows) (c .before .before .before .before .before .before .before .before .before .before .before .before .before .before .before .before .before .before .before .before .args .t) _ (c .before .before .before .before .before .before .before .before .before .t2 .given .1) (now (c .before .before .before .before .before .before .before .before .before .before .before .before .before .before .before .before .before .before .before .before .args .transfer)) (now (c .before .before .before .before .before .before .before .before .before .before .before .before .before .before .before .before .before .before .before .before .args .reply)) _ (c .before .before .before .before .before .before .before .before .before .before .before .before .before .before .entered .result) (c .before .before .before .before .before .before .before .before .before .before .before .before .before .store .ensures) (c .before .before .before .before .before .before .before .before .before .before .before .before .before .before .entered .ensures); transfer = c .before .before .before .before .before .clear .ensures .0; reply = c .before .before .before .before .before .clear .ensures .1 })
@@ -53,18 +20,6 @@ returns-2 c = settles (now (c .before .before .before .before .before .before .b
 pub settle-spec : {M : Type 1} → statement M
 settle-spec =
     tie.close
-    (tie.spec
-    entered-requires
-    store-requires
-    enum-known-t
-    ask-requires
-    enum-known-t-2
-    clear-requires
-    answer-requires
-    same-length
-    same-length-2
-    returns
-    same-length-3
-    same-length-4
-    same-length-5
-    returns-2)
+    (tie.spec (λ c κs. search needs) (λ c κs. search needs) (λ c. search needs) ask-requires (λ c. search needs)
+    (λ c κs. search needs) (λ c κs. search needs) (λ c. search needs) (λ c. search needs) returns (λ c. search needs)
+    (λ c. search needs) (λ c. search needs) returns-2)

@@ -9,26 +9,8 @@ use Rattle.telling.specs.Fit.{StartFits}
 use Rattle.settling.proofs.Settles.{starts}
 use native.Mathlib.Omega.{arith}
 
-enum-told : tie.Need-enum-told
-enum-told c = search needs
-
 settle-requires : tie.Need-settle-requires
 settle-requires c κs = let h = subst (λ (x : Opened). StartFits x (length (now (c .before .before .before .before .before .before .before .before .before .args .state))) (length (now (c .before .before .before .before .before .before .before .before .before .args .transfer))) (length (now (c .before .before .before .before .before .before .before .before .before .args .reply))) (length (now (c .before .before .before .before .before .before .before .before .before .args .lent))) (c .before .before .before .before .before .before .before .before .before .args .t)) (c .before .before .before .enum-told .given .1) (c .before .before .before .before .before .before .before .before .before .pre) in (h .0, h .1, h .2, omega arith, h .3)
-
-enum-known-o : tie.Need-enum-known-o
-enum-known-o c = search needs
-
-step-requires : tie.Need-step-requires
-step-requires c κs = search needs
-
-same-length : tie.Need-same-length
-same-length c = search needs
-
-same-length-2 : tie.Need-same-length-2
-same-length-2 c = search needs
-
-same-length-3 : tie.Need-same-length-3
-same-length-3 c = search needs
 
 returns : tie.Need-returns
 returns c = starts (c .before .before .before .before .before .before .before .before .before .before .before .before .before .before .before .before .args .o) _ (c .before .before .before .before .before .before .before .before .before .before .enum-told .given .1) (now (c .before .before .before .before .before .before .before .before .before .before .before .before .before .before .before .before .args .lent)) (c .before .before .before .before .before .before .before .before .before .before .before .before .before .before .before .before .args .t) (now (c .before .before .before .before .before .before .before .before .before .before .before .before .before .before .before .before .args .state)) (now (c .before .before .before .before .before .before .before .before .before .before .before .before .before .before .before .before .args .transfer)) (now (c .before .before .before .before .before .before .before .before .before .before .before .before .before .before .before .before .args .reply)) _ _ _ _ (c .before .before .before .before .before .before .settle .ensures)
@@ -39,13 +21,5 @@ returns-2 c = starts (c .before .before .before .before .before .before .before 
 pub started-spec : {M : Type 1} → statement M
 started-spec =
     tie.close
-    (tie.spec
-    enum-told
-    settle-requires
-    enum-known-o
-    step-requires
-    same-length
-    same-length-2
-    same-length-3
-    returns
-    returns-2)
+    (tie.spec (λ c. search needs) settle-requires (λ c. search needs) (λ c κs. search needs) (λ c. search needs)
+    (λ c. search needs) (λ c. search needs) returns returns-2)

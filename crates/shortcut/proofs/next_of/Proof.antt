@@ -11,17 +11,8 @@ returns c = tt
 returns-2 : tie.Need-returns-2
 returns-2 c = tt
 
-flat-of-requires : tie.Need-flat-of-requires
-flat-of-requires c κs = search needs
-
-wipes-requires : tie.Need-wipes-requires
-wipes-requires c κs = search needs
-
 moves-requires : tie.Need-moves-requires
 moves-requires c κs = moves-may (c .before .before .before .before .before .before .before .before .before .before .before .before .before .args .ack) (length (now (c .before .before .before .before .before .before .before .before .before .before .before .before .before .args .transfer))) (length (now (c .before .before .before .before .before .before .before .before .before .before .before .before .before .args .reply))) (length (now (c .before .before .before .before .before .before .before .before .before .before .before .before .before .args .lent))) (length (now (c .before .before .before .before .before .before .before .before .before .before .before .before .before .args .out))) (c .before .before .before .before .before .flat-of .result) (c .before .before .before .wipes .result) (c .before .before .before .before .before .before .if2 .left) (c .before .before .before .wipes .ensures) (c .if3 .taken)
-
-noted-requires : tie.Need-noted-requires
-noted-requires c κs = search needs
 
 returns-3 : tie.Need-returns-3
 returns-3 c = next-is (now (c .before .before .before .before .before .before .before .before .before .before .before .before .before .before .before .args .state)) (now (c .before .before .before .before .before .before .before .before .before .before .before .before .before .before .before .args .transfer)) (now (c .before .before .before .before .before .before .before .before .before .before .before .before .before .before .before .args .reply)) (now (c .before .before .before .before .before .before .before .before .before .before .before .before .before .before .before .args .lent)) (now (c .before .before .before .before .before .before .before .before .before .before .before .before .before .before .before .args .out)) (c .before .before .before .before .before .before .before .before .before .before .before .before .before .before .before .args .ack) (c .before .before .before .before .before .before .before .flat-of .result) (c .before .before .before .before .before .wipes .result) (c .before .moves .result) (c .noted .result) (c .before .before .before .before .before .before .before .before .before .if1 .left) (c .before .before .before .before .before .before .before .before .if2 .left) (c .before .before .before .before .before .before .before .flat-of .ensures) (c .before .before .before .before .before .wipes .ensures) (c .before .before .if3 .taken) (c .before .moves .ensures) (c .noted .ensures)
@@ -32,12 +23,5 @@ returns-4 c = tt
 pub next-of-spec : {M : Type 1} → statement M
 next-of-spec =
     tie.close
-    (tie.spec
-    returns
-    returns-2
-    flat-of-requires
-    wipes-requires
-    moves-requires
-    noted-requires
-    returns-3
-    returns-4)
+    (tie.spec returns returns-2 (λ c κs. search needs) (λ c κs. search needs) moves-requires (λ c κs. search needs)
+    returns-3 returns-4)

@@ -5,35 +5,14 @@ use denote.Ref.{now}
 use borrow.Author.Tests.{not-true, not-false}
 use Rattle.shows.proofs.Answered.{read-unsized, out-unsized, read-fills, read-taken, out-read, read-refused, out-kept}
 
-whole-requires : tie.Need-whole-requires
-whole-requires c κs = search needs
-
-refused-requires : tie.Need-refused-requires
-refused-requires c κs = search needs
-
 returns : tie.Need-returns
 returns c = let a = c .before .before .before .before .before .before .before .args in (
   read-unsized (a .dev) (now (a .head)) (now (a .identity)) (now (a .memory)) (a .r) (now (a .out)) (c .before .before .whole .result) (c .before .before .whole .ensures) (not-true _ (c .before .if1 .taken)) _ (c .refused .ensures),
   out-unsized (a .dev) (now (a .head)) (now (a .identity)) (now (a .memory)) (a .r) (now (a .out)) (c .before .before .whole .result) (c .before .before .whole .ensures) (not-true _ (c .before .if1 .taken)),
 )
 
-look-of-requires : tie.Need-look-of-requires
-look-of-requires c κs = search needs
-
-answers-requires : tie.Need-answers-requires
-answers-requires c κs = search needs
-
 show-requires : tie.Need-show-requires
 show-requires c κs = let a = c .before .before .before .before .before .before .before .before .before .before .before .args in read-fills (a .dev) (now (a .head)) (now (a .identity)) (now (a .memory)) (a .r) (now (a .out)) (c .before .before .before .before .before .before .whole .result) (c .before .before .before .before .before .before .whole .ensures) (not-false _ (c .before .before .before .before .before .if1 .left)) (c .before .before .before .before .look-of .result) (c .before .before .before .before .look-of .ensures) (c .before .before .answers .result) (c .before .before .answers .ensures) (c .before .if2 .taken)
-
-seen-requires : tie.Need-seen-requires
-seen-requires c κs = search needs
-
-refused-requires-2 : tie.Need-refused-requires-2
-refused-requires-2 c κs = search needs
-
-same-length : tie.Need-same-length
-same-length c = search needs
 
 returns-2 : tie.Need-returns-2
 returns-2 c = let a = c .before .before .before .before .before .before .before .before .before .before .before .before .before .before .before .args in (
@@ -50,15 +29,5 @@ returns-3 c = let a = c .before .before .before .before .before .before .before 
 pub read-spec : {M : Type 1} → statement M
 read-spec =
     tie.close
-    (tie.spec
-    whole-requires
-    refused-requires
-    returns
-    look-of-requires
-    answers-requires
-    show-requires
-    seen-requires
-    refused-requires-2
-    same-length
-    returns-2
-    returns-3)
+    (tie.spec (λ c κs. search needs) (λ c κs. search needs) returns (λ c κs. search needs) (λ c κs. search needs)
+    show-requires (λ c κs. search needs) (λ c κs. search needs) (λ c. search needs) returns-2 returns-3)

@@ -10,17 +10,8 @@ use lib.ListN.{length, length-take, length-drop}
 use Rattle.slices.proofs.Splice.{splice-whole}
 use Rattle.shows.proofs.Answered.{filled-part, none-left}
 
-enum-known-l : tie.Need-enum-known-l
-enum-known-l c = search needs
-
 add-end : tie.Need-add-end
 add-end c = let h : c .before .l .given .0 .0 + length (now (c .before .before .before .before .before .before .args .out)) ≤ length (now (c .before .before .before .before .before .before .args .memory)) = rw (c .before .l .given .1) at (c .before .before .before .before .before .before .pre) in omega arith
-
-sub-copy-to : tie.Need-sub-copy-to
-sub-copy-to c = search needs
-
-part-copy-to-start : tie.Need-part-copy-to-start
-part-copy-to-start c = search needs
 
 part-copy-to-end : tie.Need-part-copy-to-end
 part-copy-to-end c = let h : c .before .before .l .given .0 .0 + length (now (c .before .before .before .before .before .before .before .args .out)) ≤ length (now (c .before .before .before .before .before .before .before .args .memory)) = rw (c .before .before .l .given .1) at (c .before .before .before .before .before .before .before .pre) in omega arith
@@ -30,90 +21,45 @@ copy-to-requires c κs =
     let h : c .before .before .before .l .given .0 .0 + length (now (c .before .before .before .before .before .before .before .before .args .out)) ≤ length (now (c .before .before .before .before .before .before .before .before .args .memory)) = rw (c .before .before .before .l .given .1) at (c .before .before .before .before .before .before .before .before .pre) in
     simp (length-take, length-drop) (omega arith)
 
-enum-told : tie.Need-enum-told
-enum-told c = search needs
-
 put-requires : tie.Need-put-requires
 put-requires c κs = let h : length (now (c .before .before .before .before .before .before .args .out)) ≡ 1 = rw (c .before .enum-told .given .1) at (c .before .before .before .before .before .before .pre) in omega arith
-
-enum-told-2 : tie.Need-enum-told-2
-enum-told-2 c = search needs
-
-bit-of-requires : tie.Need-bit-of-requires
-bit-of-requires c κs = search needs
 
 put-requires-2 : tie.Need-put-requires-2
 put-requires-2 c κs = let h : length (now (c .before .before .before .before .before .before .before .args .out)) ≡ 1 = rw (c .before .before .enum-told2 .given .1) at (c .before .before .before .before .before .before .before .pre) in omega arith
 
-enum-told-3 : tie.Need-enum-told-3
-enum-told-3 c = search needs
-
-bit-of-requires-2 : tie.Need-bit-of-requires-2
-bit-of-requires-2 c κs = search needs
-
 put-requires-3 : tie.Need-put-requires-3
 put-requires-3 c κs = let h : length (now (c .before .before .before .before .before .before .before .args .out)) ≡ 1 = rw (c .before .before .enum-told3 .given .1) at (c .before .before .before .before .before .before .before .pre) in omega arith
-
-enum-known-l-2 : tie.Need-enum-known-l-2
-enum-known-l-2 c = search needs
-
-byte-of-requires : tie.Need-byte-of-requires
-byte-of-requires c κs = search needs
 
 put-requires-4 : tie.Need-put-requires-4
 put-requires-4 c κs = let h : length (now (c .before .before .before .before .before .before .before .before .args .out)) ≡ 1 = rw (c .before .before .before .l2 .given .1) at (c .before .before .before .before .before .before .before .before .pre) in omega arith
 
-enum-told-4 : tie.Need-enum-told-4
-enum-told-4 c = search needs
-
 copy-to-requires-2 : tie.Need-copy-to-requires-2
 copy-to-requires-2 c κs = let h : length (now (c .before .before .before .before .before .before .args .out)) ≡ length (now (c .before .before .before .before .before .before .args .identity)) = rw (c .before .enum-told4 .given .1) at (c .before .before .before .before .before .before .pre) in omega arith
-
-enum-told-5 : tie.Need-enum-told-5
-enum-told-5 c = search needs
-
-same-length : tie.Need-same-length
-same-length c = search needs
 
 returns : tie.Need-returns
 returns c =
     let h : c .before .before .before .before .before .before .l .given .0 .0 + length (now (c .before .before .before .before .before .before .before .before .before .before .before .args .out)) ≤ length (now (c .before .before .before .before .before .before .before .before .before .before .before .args .memory)) = rw (c .before .before .before .before .before .before .l .given .1) at (c .before .before .before .before .before .before .before .before .before .before .before .pre) in
     rw (c .before .before .before .before .before .before .l .given .1) (c .before .before .copy-to .ensures .bytes ∙ filled-part (now (c .before .before .before .before .before .before .before .before .before .before .before .args .out)) (now (c .before .before .before .before .before .before .before .before .before .before .before .args .memory)) (c .before .before .before .before .before .before .l .given .0 .0) h)
 
-same-length-2 : tie.Need-same-length-2
-same-length-2 c = search needs
-
 returns-2 : tie.Need-returns-2
 returns-2 c =
     let h : length (now (c .before .before .before .before .before .before .before .before .before .args .out)) ≡ 1 = rw (c .before .before .before .before .enum-told .given .1) at (c .before .before .before .before .before .before .before .before .before .pre) in
     rw (c .before .before .before .before .enum-told .given .1) (c .before .before .put .ensures .bytes ∙ splice-whole (now (c .before .before .before .before .before .before .before .before .before .args .out)) (_ ∷ []) h)
-
-same-length-3 : tie.Need-same-length-3
-same-length-3 c = search needs
 
 returns-3 : tie.Need-returns-3
 returns-3 c =
     let h : length (now (c .before .before .before .before .before .before .before .before .before .before .args .out)) ≡ 1 = rw (c .before .before .before .before .before .enum-told2 .given .1) at (c .before .before .before .before .before .before .before .before .before .before .pre) in
     rw (c .before .before .before .before .before .enum-told2 .given .1) (c .before .before .put2 .ensures .bytes ∙ splice-whole (now (c .before .before .before .before .before .before .before .before .before .before .args .out)) (_ ∷ []) h ∙ ap (λ (v : ℕ). v ∷ []) (c .before .before .before .bit-of .ensures))
 
-same-length-4 : tie.Need-same-length-4
-same-length-4 c = search needs
-
 returns-4 : tie.Need-returns-4
 returns-4 c =
     let h : length (now (c .before .before .before .before .before .before .before .before .before .before .args .out)) ≡ 1 = rw (c .before .before .before .before .before .enum-told3 .given .1) at (c .before .before .before .before .before .before .before .before .before .before .pre) in
     rw (c .before .before .before .before .before .enum-told3 .given .1) (c .before .before .put3 .ensures .bytes ∙ splice-whole (now (c .before .before .before .before .before .before .before .before .before .before .args .out)) (_ ∷ []) h ∙ ap (λ (v : ℕ). v ∷ []) (c .before .before .before .bit-of2 .ensures))
 
-same-length-5 : tie.Need-same-length-5
-same-length-5 c = search needs
-
 returns-5 : tie.Need-returns-5
 returns-5 c =
     let h : length (now (c .before .before .before .before .before .before .before .before .before .before .before .args .out)) ≡ 1 = rw (c .before .before .before .before .before .before .l2 .given .1) at (c .before .before .before .before .before .before .before .before .before .before .before .pre) in
     rw (c .before .before .before .before .before .before .l2 .given .1) (c .before .before .put4 .ensures .bytes ∙ splice-whole (now (c .before .before .before .before .before .before .before .before .before .before .before .args .out)) (_ ∷ []) h ∙ ap (λ (v : ℕ). v ∷ []) (c .before .before .before .byte-of .ensures))
-
-same-length-6 : tie.Need-same-length-6
-same-length-6 c = search needs
 
 returns-6 : tie.Need-returns-6
 returns-6 c =
@@ -126,37 +72,9 @@ returns-7 c = let h : length (now (c .before .before .before .before .before .ar
 pub show-spec : {M : Type 1} → statement M
 show-spec =
     tie.close
-    (tie.spec
-    enum-known-l
-    add-end
-    sub-copy-to
-    part-copy-to-start
-    part-copy-to-end
-    copy-to-requires
-    enum-told
-    put-requires
-    enum-told-2
-    bit-of-requires
-    put-requires-2
-    enum-told-3
-    bit-of-requires-2
-    put-requires-3
-    enum-known-l-2
-    byte-of-requires
-    put-requires-4
-    enum-told-4
-    copy-to-requires-2
-    enum-told-5
-    same-length
-    returns
-    same-length-2
-    returns-2
-    same-length-3
-    returns-3
-    same-length-4
-    returns-4
-    same-length-5
-    returns-5
-    same-length-6
-    returns-6
-    returns-7)
+    (tie.spec (λ c. search needs) add-end (λ c. search needs) (λ c. search needs) part-copy-to-end copy-to-requires
+    (λ c. search needs) put-requires (λ c. search needs) (λ c κs. search needs) put-requires-2 (λ c. search needs)
+    (λ c κs. search needs) put-requires-3 (λ c. search needs) (λ c κs. search needs) put-requires-4
+    (λ c. search needs) copy-to-requires-2 (λ c. search needs) (λ c. search needs) returns (λ c. search needs)
+    returns-2 (λ c. search needs) returns-3 (λ c. search needs) returns-4 (λ c. search needs) returns-5
+    (λ c. search needs) returns-6 returns-7)

@@ -5,9 +5,6 @@ use mathlib.Core.Path.{sym, _∙_}
 use Rattle.session.proofs.Unders.{under-says}
 use native.Mathlib.Omega.{arith}
 
-under-requires : tie.Need-under-requires
-under-requires c κs = search needs
-
 sub-left : tie.Need-sub-left
 sub-left c = let h = under-says (c .before .before .args .m) (c .before .before .args .c .start) (c .before .before .args .len) (c .before .before .args .c .done) (c .before .under .result) (c .before .under .ensures) (c .if1 .taken) in omega (arith, h .0, h .1, h .2)
 
@@ -32,12 +29,4 @@ returns-3 c = rw (sym (c .before .under .ensures) ∙ c .if1 .left)
 pub check-rows-spec : {M : Type 1} → statement M
 check-rows-spec =
     tie.close
-    (tie.spec
-    under-requires
-    sub-left
-    sub-left-2
-    add-rows-to
-    rows-to-requires
-    returns
-    returns-2
-    returns-3)
+    (tie.spec (λ c κs. search needs) sub-left sub-left-2 add-rows-to rows-to-requires returns returns-2 returns-3)

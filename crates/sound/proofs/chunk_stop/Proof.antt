@@ -6,23 +6,11 @@ use Prim.Native.Nat.{_+_, min}
 use Rattle.session.proofs.Unders.{stop-other, stop-past, stop-here}
 use native.Mathlib.Omega.{arith}
 
-wipe-end-requires : tie.Need-wipe-end-requires
-wipe-end-requires c κs = search needs
-
 returns : tie.Need-returns
 returns c = (stop-other (c .before .before .args .m) (c .before .before .args .p) (c .before .wipe-end .result) (c .before .wipe-end .ensures .0) (c .if1 .taken), omega arith)
 
 returns-2 : tie.Need-returns-2
 returns-2 c = (stop-past (c .before .before .before .args .m) (c .before .before .before .args .p) (c .before .before .wipe-end .result) (c .before .before .wipe-end .ensures .0) (c .before .if1 .left) (c .if2 .taken), omega arith)
-
-sub-left : tie.Need-sub-left
-sub-left c = search needs
-
-sub-left-2 : tie.Need-sub-left-2
-sub-left-2 c = search needs
-
-add-stop : tie.Need-add-stop
-add-stop c = search needs
 
 returns-3 : tie.Need-returns-3
 returns-3 c = let e : c .before .before .before .before .before .before .args .p .end ≡ min (c .before .before .before .before .before .before .args .p .end) (c .before .before .before .before .before .before .args .p .at + 64) = omega (arith, c .if4 .taken) in (e ∙ stop-here (c .before .before .before .before .before .before .args .m) (c .before .before .before .before .before .before .args .p) (c .before .before .before .before .before .wipe-end .result) (c .before .before .before .before .before .wipe-end .ensures .0) (c .before .before .before .before .if1 .left) (c .before .before .before .if2 .left) _ (c .before .if3 .taken), omega (arith, c .before .before .before .before .if1 .left, c .before .before .before .before .before .wipe-end .ensures .1))
@@ -36,13 +24,5 @@ returns-5 c = (stop-here (c .before .before .before .before .before .args .m) (c
 pub chunk-stop-spec : {M : Type 1} → statement M
 chunk-stop-spec =
     tie.close
-    (tie.spec
-    wipe-end-requires
-    returns
-    returns-2
-    sub-left
-    sub-left-2
-    add-stop
-    returns-3
-    returns-4
-    returns-5)
+    (tie.spec (λ c κs. search needs) returns returns-2 (λ c. search needs) (λ c. search needs) (λ c. search needs)
+    returns-3 returns-4 returns-5)

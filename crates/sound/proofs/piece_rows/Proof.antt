@@ -6,9 +6,6 @@ use Prim.Native.Nat.{_<_}
 use Rattle.session.proofs.Unders.{under-says, count-some}
 use native.Mathlib.Omega.{arith}
 
-under-requires : tie.Need-under-requires
-under-requires c κs = search needs
-
 add-at : tie.Need-add-at
 add-at c = let h = under-says (c .before .before .args .m) (c .before .before .args .p .start) (c .before .before .args .len) (c .before .before .args .p .done) (c .before .under .result) (c .before .under .ensures) (c .if1 .taken) in omega (arith, h .0, h .1, h .2, c .before .before .pre)
 
@@ -39,14 +36,5 @@ returns-3 c = rw (sym (c .before .under .ensures) ∙ c .if1 .left)
 pub piece-rows-spec : {M : Type 1} → statement M
 piece-rows-spec =
     tie.close
-    (tie.spec
-    under-requires
-    add-at
-    sub-row-count
-    row-count-requires
-    sub-if2
-    add-rows-to
-    rows-to-requires
-    returns
-    returns-2
-    returns-3)
+    (tie.spec (λ c κs. search needs) add-at sub-row-count row-count-requires sub-if2 add-rows-to rows-to-requires
+    returns returns-2 returns-3)

@@ -3,24 +3,6 @@ use Rattle.sound.proofs.row_sound.Statement.{statement}
 use Rattle.sound.proofs.row_sound.Tie as tie
 use borrow.Author.Tests.{lt-ltb, le-ltb}
 
-add-to-come : tie.Need-add-to-come
-add-to-come c = search needs
-
-to-come-requires : tie.Need-to-come-requires
-to-come-requires c κs = search needs
-
-add-to-come-2 : tie.Need-add-to-come-2
-add-to-come-2 c = search needs
-
-to-come-requires-2 : tie.Need-to-come-requires-2
-to-come-requires-2 c κs = search needs
-
-add-to-come-3 : tie.Need-add-to-come-3
-add-to-come-3 c = search needs
-
-to-come-requires-3 : tie.Need-to-come-requires-3
-to-come-requires-3 c κs = search needs
-
 returns : tie.Need-returns
 returns c = rw (lt-ltb (c .before .before .before .before .before .args .r .row) (c .before .before .before .before .before .args .stop) (c .before .before .before .before .if1 .taken), ← (c .before .before .before .to-come .ensures), ← (c .before .before .to-come2 .ensures), ← (c .before .to-come3 .ensures))
 
@@ -30,12 +12,5 @@ returns-2 c = rw (le-ltb (c .before .args .r .row) (c .before .args .stop) (c .i
 pub row-sound-spec : {M : Type 1} → statement M
 row-sound-spec =
     tie.close
-    (tie.spec
-    add-to-come
-    to-come-requires
-    add-to-come-2
-    to-come-requires-2
-    add-to-come-3
-    to-come-requires-3
-    returns
-    returns-2)
+    (tie.spec (λ c. search needs) (λ c κs. search needs) (λ c. search needs) (λ c κs. search needs)
+    (λ c. search needs) (λ c κs. search needs) returns returns-2)

@@ -2,18 +2,6 @@ use borrow.Author.Needs.{needs}
 use Rattle.sound.proofs.switch_sound.Statement.{statement}
 use Rattle.sound.proofs.switch_sound.Tie as tie
 
-enum-known-s : tie.Need-enum-known-s
-enum-known-s c = search needs
-
-enum-known-s-2 : tie.Need-enum-known-s-2
-enum-known-s-2 c = search needs
-
-enum-known-s-3 : tie.Need-enum-known-s-3
-enum-known-s-3 c = search needs
-
-enum-known-s-4 : tie.Need-enum-known-s-4
-enum-known-s-4 c = search needs
-
 returns : tie.Need-returns
 returns c = rw (c .before .s .given .1)
 
@@ -29,12 +17,5 @@ returns-4 c = rw (c .before .s4 .given .1)
 pub switch-sound-spec : {M : Type 1} → statement M
 switch-sound-spec =
     tie.close
-    (tie.spec
-    enum-known-s
-    enum-known-s-2
-    enum-known-s-3
-    enum-known-s-4
-    returns
-    returns-2
-    returns-3
-    returns-4)
+    (tie.spec (λ c. search needs) (λ c. search needs) (λ c. search needs) (λ c. search needs) returns returns-2
+    returns-3 returns-4)

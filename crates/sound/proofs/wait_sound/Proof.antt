@@ -2,12 +2,6 @@ use borrow.Author.Needs.{needs}
 use Rattle.sound.proofs.wait_sound.Statement.{statement}
 use Rattle.sound.proofs.wait_sound.Tie as tie
 
-enum-known-w : tie.Need-enum-known-w
-enum-known-w c = search needs
-
-enum-known-w-2 : tie.Need-enum-known-w-2
-enum-known-w-2 c = search needs
-
 returns : tie.Need-returns
 returns c = rw (c .before .w .given .1)
 
@@ -15,4 +9,4 @@ returns-2 : tie.Need-returns-2
 returns-2 c = rw (c .before .w2 .given .1)
 
 pub wait-sound-spec : {M : Type 1} → statement M
-wait-sound-spec = tie.close (tie.spec enum-known-w enum-known-w-2 returns returns-2)
+wait-sound-spec = tie.close (tie.spec (λ c. search needs) (λ c. search needs) returns returns-2)

@@ -13,26 +13,11 @@ use Rattle.calling.specs.Calling.{named}
 use Rattle.entry.proofs.Opens.{start-fits, mark-small}
 use Rattle.entry.proofs.Calls.{leaves-as, start-is}
 
-opened-at-requires : tie.Need-opened-at-requires
-opened-at-requires c κs = search needs
-
-mark-of-requires : tie.Need-mark-of-requires
-mark-of-requires c κs = search needs
-
 start-requires : tie.Need-start-requires
 start-requires c κs = subst (λ (k : ℕ). k ≤ 8192) (sym (c .before .before .before .mark-of .ensures)) (mark-small (now (c .before .before .before .before .before .before .before .before .before .before .args .state)) (length (now (c .before .before .before .before .before .before .before .before .before .before .args .transfer))) (length (now (c .before .before .before .before .before .before .before .before .before .before .args .reply))) (c .before .before .before .before .opened-at .result) (c .before .before .before .before .opened-at .ensures))
 
 started-requires : tie.Need-started-requires
 started-requires c κs = subst (λ (l : List ℕ). StartFits (c .before .before .before .before .before .opened-at .result) (length (now (c .before .before .before .before .before .before .before .before .before .before .before .args .state))) (length (now (c .before .before .before .before .before .before .before .before .before .before .before .args .transfer))) (length (now (c .before .before .before .before .before .before .before .before .before .before .before .args .reply))) (length l) (c .start .result)) (sym (c .before .before .before .before .before .before .before .before .before .before .before .pre)) (start-fits (named (c .before .before .before .before .before .before .before .before .before .before .before .args .c) (now (c .before .before .before .before .before .before .before .before .before .before .before .args .lent))) (now (c .before .before .before .before .before .before .before .before .before .before .before .args .state)) (length (now (c .before .before .before .before .before .before .before .before .before .before .before .args .transfer))) (length (now (c .before .before .before .before .before .before .before .before .before .before .before .args .reply))) (c .before .before .before .before .before .opened-at .result) (c .start .result) (c .before .before .before .before .before .opened-at .ensures) (c .start .ensures ∙ ap (startOf (named (c .before .before .before .before .before .before .before .before .before .before .before .args .c) (now (c .before .before .before .before .before .before .before .before .before .before .before .args .lent)))) (c .before .before .before .before .mark-of .ensures)))
-
-same-length : tie.Need-same-length
-same-length c = search needs
-
-same-length-2 : tie.Need-same-length-2
-same-length-2 c = search needs
-
-same-length-3 : tie.Need-same-length-3
-same-length-3 c = search needs
 
 returns : tie.Need-returns
 returns c = leaves-as _ _ (ap (λ (l : List ℕ). startedLeft (c .before .before .before .before .before .before .before .before .before .before .before .before .opened-at .result) l (c .before .before .before .before .before .before .before .start .result) (now (c .before .before .before .before .before .before .before .before .before .before .before .before .before .before .before .before .before .before .args .state)) (now (c .before .before .before .before .before .before .before .before .before .before .before .before .before .before .before .before .before .before .args .transfer)) (now (c .before .before .before .before .before .before .before .before .before .before .before .before .before .before .before .before .before .before .args .reply))) (c .before .before .before .before .before .before .before .before .before .before .before .before .before .before .before .before .before .before .pre) ∙ start-is (named (c .before .before .before .before .before .before .before .before .before .before .before .before .before .before .before .before .before .before .args .c) (now (c .before .before .before .before .before .before .before .before .before .before .before .before .before .before .before .before .before .before .args .lent))) (now (c .before .before .before .before .before .before .before .before .before .before .before .before .before .before .before .before .before .before .args .state)) (now (c .before .before .before .before .before .before .before .before .before .before .before .before .before .before .before .before .before .before .args .transfer)) (now (c .before .before .before .before .before .before .before .before .before .before .before .before .before .before .before .before .before .before .args .reply)) (c .before .before .before .before .before .before .before .before .before .before .before .before .opened-at .result) (c .before .before .before .before .before .before .before .before .before .before .before .mark-of .result) (c .before .before .before .before .before .before .before .start .result) (c .before .before .before .before .before .before .before .before .before .before .before .before .opened-at .ensures) (c .before .before .before .before .before .before .before .before .before .before .before .mark-of .ensures) (c .before .before .before .before .before .before .before .start .ensures)) _ _ _ _ (c .before .before .before .before .before .before .started .ensures)
@@ -40,12 +25,5 @@ returns c = leaves-as _ _ (ap (λ (l : List ℕ). startedLeft (c .before .before
 pub start-spec : {M : Type 1} → statement M
 start-spec =
     tie.close
-    (tie.spec
-    opened-at-requires
-    mark-of-requires
-    start-requires
-    started-requires
-    same-length
-    same-length-2
-    same-length-3
-    returns)
+    (tie.spec (λ c κs. search needs) (λ c κs. search needs) start-requires started-requires (λ c. search needs)
+    (λ c. search needs) (λ c. search needs) returns)

@@ -4,18 +4,6 @@ use Rattle.sweeping.proofs.clean_of.Tie as tie
 use denote.Ref.{now}
 use Rattle.wiping.proofs.Sweeps.{sweep-says, clean-is}
 
-flat-of-requires : tie.Need-flat-of-requires
-flat-of-requires c κs = search needs
-
-wipes-requires : tie.Need-wipes-requires
-wipes-requires c κs = search needs
-
-bare-requires : tie.Need-bare-requires
-bare-requires c κs = search needs
-
-chunk-from-requires : tie.Need-chunk-from-requires
-chunk-from-requires c κs = search needs
-
 passed-requires : tie.Need-passed-requires
 passed-requires c κs = (sweep-says (c .before .before .before .before .before .before .before .before .before .flat-of .result) (c .before .before .before .before .before .before .wipes .result) (c .before .before .before .before .bare .result) (c .before .before .before .before .before .before .wipes .ensures) (c .before .before .before .before .bare .ensures) (c .before .if1 .taken) .4, c .before .before .before .before .before .before .before .before .before .before .before .before .pre .1)
 
@@ -28,11 +16,5 @@ returns-2 c = tt
 pub clean-of-spec : {M : Type 1} → statement M
 clean-of-spec =
     tie.close
-    (tie.spec
-    flat-of-requires
-    wipes-requires
-    bare-requires
-    chunk-from-requires
-    passed-requires
-    returns
-    returns-2)
+    (tie.spec (λ c κs. search needs) (λ c κs. search needs) (λ c κs. search needs) (λ c κs. search needs)
+    passed-requires returns returns-2)

@@ -9,14 +9,8 @@ use Rattle.wiping.proofs.Wipings.{read-sane, near}
 use Rattle.wiping.proofs.Sweeps.{passes}
 use native.Mathlib.Omega.{arith}
 
-chunk-stop-requires : tie.Need-chunk-stop-requires
-chunk-stop-requires c κs = search needs
-
 add-next : tie.Need-add-next
 add-next c = let h = near (c .before .before .before .before .before .args .m) (c .before .before .before .before .before .args .rows) (Read (c .before .before .before .before .before .args .p)) (read-sane (c .before .before .before .before .before .args .m) (c .before .before .before .before .before .args .rows) (c .before .before .before .chunk-stop .result) (c .before .before .before .before .before .args .p) (c .before .before .before .chunk-stop .ensures .0) (c .before .if1 .taken)) in omega (arith, h)
-
-all-zero-requires : tie.Need-all-zero-requires
-all-zero-requires c κs = search needs
 
 sub-t15 : tie.Need-sub-t15
 sub-t15 c = not-last (c .before .before .before .before .before .before .before .before .before .before .before .args .p .left) (c .before .before .before .before .before .before .before .before .before .before .before .args .p .at + 64) (c .before .before .before .before .before .before .before .before .before .before .before .args .p .end) (c .before .before .before .if2 .taken)
@@ -36,12 +30,4 @@ returns-4 c = tt
 pub passed-spec : {M : Type 1} → statement M
 passed-spec =
     tie.close
-    (tie.spec
-    chunk-stop-requires
-    add-next
-    all-zero-requires
-    sub-t15
-    returns
-    returns-2
-    returns-3
-    returns-4)
+    (tie.spec (λ c κs. search needs) add-next (λ c κs. search needs) sub-t15 returns returns-2 returns-3 returns-4)

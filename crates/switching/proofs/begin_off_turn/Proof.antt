@@ -4,18 +4,6 @@ use Rattle.switching.proofs.begin_off_turn.Tie as tie
 use Rattle.protocol.specs.Mark.{isNone}
 use borrow.Author.Tests.{lt-ltb, le-ltb}
 
-enum-known-x : tie.Need-enum-known-x
-enum-known-x c = search needs
-
-enum-told : tie.Need-enum-told
-enum-told c = search needs
-
-wipe-start-requires : tie.Need-wipe-start-requires
-wipe-start-requires c κs = search needs
-
-enum-told-2 : tie.Need-enum-told-2
-enum-told-2 c = search needs
-
 returns : tie.Need-returns
 unfolding isNone
 returns c = rw (c .before .x .given .1)
@@ -35,12 +23,5 @@ returns-4 c = rw (c .enum-told2 .given .1)
 pub begin-off-turn-spec : {M : Type 1} → statement M
 begin-off-turn-spec =
     tie.close
-    (tie.spec
-    enum-known-x
-    enum-told
-    wipe-start-requires
-    enum-told-2
-    returns
-    returns-2
-    returns-3
-    returns-4)
+    (tie.spec (λ c. search needs) (λ c. search needs) (λ c κs. search needs) (λ c. search needs) returns returns-2
+    returns-3 returns-4)

@@ -10,18 +10,6 @@ use lib.ListN.{length}
 use borrow.Author.Tests.{leb-true}
 use Rattle.slices.specs.Bytes.{splice}
 
-enum-told : tie.Need-enum-told
-enum-told c = search needs
-
-enum-known-k : tie.Need-enum-known-k
-enum-known-k c = search needs
-
-inside-requires : tie.Need-inside-requires
-inside-requires c κs = search needs
-
-front-requires : tie.Need-front-requires
-front-requires c κs = search needs
-
 copy-to-requires : tie.Need-copy-to-requires
 copy-to-requires c κs =
     let h : c .before .before .before .before .before .k .given .0 .0 + c .before .before .before .before .before .k .given .0 .1 .0 ≤ 8192 = leb-true (c .before .before .before .before .before .k .given .0 .0 + c .before .before .before .before .before .k .given .0 .1 .0) 8192 (sym (c .before .before .before .inside .ensures) ∙ c .before .before .if1 .taken) in
@@ -29,36 +17,14 @@ copy-to-requires c κs =
     let f : length (now (c .front .result)) ≤ c .before .before .before .before .before .k .given .0 .1 .0 = c .front .ensures .0 in
     omega arith
 
-enum-told-2 : tie.Need-enum-told-2
-enum-told-2 c = search needs
-
-returns : tie.Need-returns
-returns c = search needs
-
-same-length : tie.Need-same-length
-same-length c = search needs
-
 returns-2 : tie.Need-returns-2
 returns-2 c = rw (c .before .before .before .before .before .before .before .before .k .given .1, sym (c .before .before .before .before .before .before .inside .ensures) ∙ c .before .before .before .before .before .if1 .taken) (c .before .before .copy-to .ensures .bytes ∙ ap (λ (l : List ℕ). splice (now (c .before .before .before .before .before .before .before .before .before .before .before .before .args .memory)) (c .before .before .before .before .before .before .before .before .k .given .0 .0) l) (c .before .before .before .front .ensures .1))
 
 returns-3 : tie.Need-returns-3
 returns-3 c = rw (c .before .before .before .k .given .1, sym (c .before .inside .ensures) ∙ c .if1 .left)
 
-returns-4 : tie.Need-returns-4
-returns-4 c = search needs
-
 pub tear-row-spec : {M : Type 1} → statement M
 tear-row-spec =
     tie.close
-    (tie.spec
-    enum-told
-    enum-known-k
-    inside-requires
-    front-requires
-    copy-to-requires
-    enum-told-2
-    returns
-    same-length
-    returns-2
-    returns-3
-    returns-4)
+    (tie.spec (λ c. search needs) (λ c. search needs) (λ c κs. search needs) (λ c κs. search needs) copy-to-requires
+    (λ c. search needs) (λ c. search needs) (λ c. search needs) returns-2 returns-3 (λ c. search needs))

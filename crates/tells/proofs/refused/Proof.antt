@@ -3,21 +3,6 @@ use Rattle.tells.proofs.refused.Statement.{statement}
 use Rattle.tells.proofs.refused.Tie as tie
 use mathlib.Core.Path.{refl}
 
-enum-told : tie.Need-enum-told
-enum-told c = search needs
-
-enum-known-why : tie.Need-enum-known-why
-enum-known-why c = search needs
-
-enum-known-why-2 : tie.Need-enum-known-why-2
-enum-known-why-2 c = search needs
-
-enum-told-2 : tie.Need-enum-told-2
-enum-told-2 c = search needs
-
-enum-told-3 : tie.Need-enum-told-3
-enum-told-3 c = search needs
-
 returns : tie.Need-returns
 returns c = rw (c .before .enum-told .given .1) (refl, refl)
 
@@ -36,14 +21,5 @@ returns-5 c = rw (c .before .enum-told3 .given .1) (refl, refl)
 pub refused-spec : {M : Type 1} → statement M
 refused-spec =
     tie.close
-    (tie.spec
-    enum-told
-    enum-known-why
-    enum-known-why-2
-    enum-told-2
-    enum-told-3
-    returns
-    returns-2
-    returns-3
-    returns-4
-    returns-5)
+    (tie.spec (λ c. search needs) (λ c. search needs) (λ c. search needs) (λ c. search needs) (λ c. search needs)
+    returns returns-2 returns-3 returns-4 returns-5)

@@ -6,9 +6,6 @@ use borrow.Author.Tests.{eq-eqb, ne-eqb}
 returns : tie.Need-returns
 returns c = rw (eq-eqb _ 1 (c .if1 .taken))
 
-cast-t6 : tie.Need-cast-t6
-cast-t6 c = search needs
-
 returns-2 : tie.Need-returns-2
 returns-2 c = rw (ne-eqb _ 1 (c .before .if1 .left), eq-eqb _ 2 (c .if2 .taken))
 
@@ -16,4 +13,4 @@ returns-3 : tie.Need-returns-3
 returns-3 c = rw (ne-eqb _ 1 (c .before .if1 .left), ne-eqb _ 2 (c .if2 .left))
 
 pub cycle-of-spec : {M : Type 1} → statement M
-cycle-of-spec = tie.close (tie.spec returns cast-t6 returns-2 returns-3)
+cycle-of-spec = tie.close (tie.spec returns (λ c. search needs) returns-2 returns-3)

@@ -11,21 +11,6 @@ use Rattle.layout.specs.Image.{image}
 use Rattle.judging.proofs.Judged.{room-of, text-refused, text-judged, finished, refused}
 use native.Mathlib.Omega.{arith}
 
-add-judge : tie.Need-add-judge
-add-judge c = search needs
-
-judge-requires : tie.Need-judge-requires
-judge-requires c κs = search needs
-
-enum-known-why : tie.Need-enum-known-why
-enum-known-why c = search needs
-
-enum-told : tie.Need-enum-told
-enum-told c = search needs
-
-is-utf8-requires : tie.Need-is-utf8-requires
-is-utf8-requires c κs = search needs
-
 put-image-requires : tie.Need-put-image-requires
 put-image-requires c κs =
     let a = c .before .before .before .before .before .before .before .before .before .before .args in
@@ -37,9 +22,6 @@ returns c =
     let a = c .before .before .before .before .before .before .before .before .args in
     refused _ (image (a .area) (whole 1 (now (a .kind)) (now (a .head) ++ now (a .text))))
     (text-refused (length (now (a .out))) (a .area) (length (now (a .kind))) (now (a .head)) (now (a .text)) (sym (c .before .before .before .judge .ensures) ∙ c .before .why .given .1))
-
-same-length : tie.Need-same-length
-same-length c = search needs
 
 returns-2 : tie.Need-returns-2
 returns-2 c =
@@ -57,14 +39,5 @@ returns-3 c =
 pub text-with-spec : {M : Type 1} → statement M
 text-with-spec =
     tie.close
-    (tie.spec
-    add-judge
-    judge-requires
-    enum-known-why
-    enum-told
-    is-utf8-requires
-    put-image-requires
-    returns
-    same-length
-    returns-2
-    returns-3)
+    (tie.spec (λ c. search needs) (λ c κs. search needs) (λ c. search needs) (λ c. search needs)
+    (λ c κs. search needs) put-image-requires returns (λ c. search needs) returns-2 returns-3)

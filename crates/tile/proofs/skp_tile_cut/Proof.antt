@@ -10,18 +10,6 @@ use Rattle.simulated.specs.Simulated.{poweredUp, memoryLeft}
 use Rattle.tens.specs.Tens.{flag, tileOf}
 use Rattle.tile.proofs.Through.{through}
 
-registers-of-requires : tie.Need-registers-of-requires
-registers-of-requires c κs = search needs
-
-cut-requires : tie.Need-cut-requires
-cut-requires c κs = search needs
-
-tile-of-requires : tie.Need-tile-of-requires
-tile-of-requires c κs = search needs
-
-same-length : tie.Need-same-length
-same-length c = search needs
-
 returns : tie.Need-returns
 returns c =
     let a = c .before .before .before .before .before .before .before .before .before .args in
@@ -34,4 +22,5 @@ returns c =
 
 pub skp-tile-cut-spec : {M : Type 1} → statement M
 skp-tile-cut-spec =
-    tie.close (tie.spec registers-of-requires cut-requires tile-of-requires same-length returns)
+    tie.close
+    (tie.spec (λ c κs. search needs) (λ c κs. search needs) (λ c κs. search needs) (λ c. search needs) returns)

@@ -11,18 +11,6 @@ use Rattle.simulated.specs.Simulated.{phoned, memoryPhoned}
 use Rattle.tens.specs.Tens.{tileOf}
 use Rattle.tile.proofs.Through.{through}
 
-registers-of-requires : tie.Need-registers-of-requires
-registers-of-requires c κs = search needs
-
-phone-requires : tie.Need-phone-requires
-phone-requires c κs = search needs
-
-tile-of-requires : tie.Need-tile-of-requires
-tile-of-requires c κs = search needs
-
-same-length : tie.Need-same-length
-same-length c = search needs
-
 returns : tie.Need-returns
 returns c =
     let a = c .before .before .before .before .before .before .before .before .before .args in
@@ -35,4 +23,5 @@ returns c =
 
 pub skp-tile-phone-spec : {M : Type 1} → statement M
 skp-tile-phone-spec =
-    tie.close (tie.spec registers-of-requires phone-requires tile-of-requires same-length returns)
+    tie.close
+    (tie.spec (λ c κs. search needs) (λ c κs. search needs) (λ c κs. search needs) (λ c. search needs) returns)

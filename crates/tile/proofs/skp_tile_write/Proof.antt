@@ -12,21 +12,6 @@ use Rattle.tens.specs.Tens.{tileOf}
 use Rattle.tile.specs.Acked.{acked}
 use Rattle.tile.proofs.Through.{through}
 
-registers-of-requires : tie.Need-registers-of-requires
-registers-of-requires c κs = search needs
-
-write-requires : tie.Need-write-requires
-write-requires c κs = search needs
-
-tile-of-requires : tie.Need-tile-of-requires
-tile-of-requires c κs = search needs
-
-ack-of-requires : tie.Need-ack-of-requires
-ack-of-requires c κs = search needs
-
-same-length : tie.Need-same-length
-same-length c = search needs
-
 returns : tie.Need-returns
 returns c =
     let a = c .before .before .before .before .before .before .before .before .before .before .before .args in
@@ -44,10 +29,5 @@ returns c =
 pub skp-tile-write-spec : {M : Type 1} → statement M
 skp-tile-write-spec =
     tie.close
-    (tie.spec
-    registers-of-requires
-    write-requires
-    tile-of-requires
-    ack-of-requires
-    same-length
-    returns)
+    (tie.spec (λ c κs. search needs) (λ c κs. search needs) (λ c κs. search needs) (λ c κs. search needs)
+    (λ c. search needs) returns)

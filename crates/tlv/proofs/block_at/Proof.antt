@@ -18,9 +18,6 @@ returns : tie.Need-returns
 unfolding blockOf
 returns c = simp (eq-eqb _ _ (c .if1 .taken))
 
-shared-slice-read-t : tie.Need-shared-slice-read-t
-shared-slice-read-t c = search needs
-
 returns-2 : tie.Need-returns-2
 unfolding blockOf
 returns-2 c = simp (ne-eqb _ _ (c .before .before .if1 .left), eq-eqb _ _ (c .if2 .taken))
@@ -28,21 +25,6 @@ returns-2 c = simp (ne-eqb _ _ (c .before .before .if1 .left), eq-eqb _ _ (c .if
 returns-3 : tie.Need-returns-3
 unfolding blockOf
 returns-3 c = simp (ne-eqb _ _ (c .before .before .before .if1 .left), ne-eqb _ _ (c .before .if2 .left), eq-eqb _ _ (c .if3 .taken))
-
-sub-tlv-len : tie.Need-sub-tlv-len
-sub-tlv-len c = search needs
-
-part-tlv-len-start : tie.Need-part-tlv-len-start
-part-tlv-len-start c = search needs
-
-part-tlv-len-end : tie.Need-part-tlv-len-end
-part-tlv-len-end c = search needs
-
-tlv-len-requires : tie.Need-tlv-len-requires
-tlv-len-requires c κs = search needs
-
-enum-known-len : tie.Need-enum-known-len
-enum-known-len c = search needs
 
 add-body : tie.Need-add-body
 add-body c =
@@ -53,9 +35,6 @@ body-requires : tie.Need-body-requires
 body-requires c κs =
     let h = tlv-there (drop 1 (now (c .before .before .before .before .before .before .before .before .before .before .args .s))) (sym (found (c .before .before .before)) ∙ c .before .len .given .1) in
     omega (arith, length-drop 1 (now (c .before .before .before .before .before .before .before .before .before .before .args .s)))
-
-enum-told : tie.Need-enum-told
-enum-told c = search needs
 
 returns-4 : tie.Need-returns-4
 unfolding blockOf
@@ -68,18 +47,6 @@ returns-5 c = simp (ne-eqb _ _ (c .before .before .before .before .before .befor
 pub block-at-spec : {M : Type 1} → statement M
 block-at-spec =
     tie.close
-    (tie.spec
-    returns
-    shared-slice-read-t
-    returns-2
-    returns-3
-    sub-tlv-len
-    part-tlv-len-start
-    part-tlv-len-end
-    tlv-len-requires
-    enum-known-len
-    add-body
-    body-requires
-    enum-told
-    returns-4
-    returns-5)
+    (tie.spec returns (λ c. search needs) returns-2 returns-3 (λ c. search needs) (λ c. search needs)
+    (λ c. search needs) (λ c κs. search needs) (λ c. search needs) add-body body-requires (λ c. search needs)
+    returns-4 returns-5)

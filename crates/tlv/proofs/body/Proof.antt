@@ -21,13 +21,10 @@ unfolding bodyOf
 returns-2 c = let h : c .before .before .args .from + c .before .before .args .len ≤ length (now (c .before .before .args .s)) = omega arith in
     simp (le-ltb _ _ h, eq-eqb _ _ (c .if2 .taken))
 
-add-t5 : tie.Need-add-t5
-add-t5 c = search needs
-
 returns-3 : tie.Need-returns-3
 unfolding bodyOf
 returns-3 c = let h : c .before .before .args .from + c .before .before .args .len ≤ length (now (c .before .before .args .s)) = omega arith in
     simp (le-ltb _ _ h, ne-eqb _ _ (c .if2 .left))
 
 pub body-spec : {M : Type 1} → statement M
-body-spec = tie.close (tie.spec sub-if1 returns returns-2 add-t5 returns-3)
+body-spec = tie.close (tie.spec sub-if1 returns returns-2 (λ c. search needs) returns-3)

@@ -6,18 +6,6 @@ use Rattle.machine.specs.declared.switch.Switch.{Switch}
 use Rattle.stages.specs.declared.stage.Stage.the-variants as G
 use Rattle.stages.specs.declared.stage.Turn.the-variants.{Open}
 
-enum-known-x : tie.Need-enum-known-x
-enum-known-x c = search needs
-
-enum-told : tie.Need-enum-told
-enum-told c = search needs
-
-new-requires : tie.Need-new-requires
-new-requires c κs = search needs
-
-enum-known-x-2 : tie.Need-enum-known-x-2
-enum-known-x-2 c = search needs
-
 returns : tie.Need-returns
 returns c = rw (c .before .x .given .1)
 
@@ -30,4 +18,5 @@ returns-3 c = rw (c .before .x2 .given .1)
 pub begin-turn-spec : {M : Type 1} → statement M
 begin-turn-spec =
     tie.close
-    (tie.spec enum-known-x enum-told new-requires enum-known-x-2 returns returns-2 returns-3)
+    (tie.spec (λ c. search needs) (λ c. search needs) (λ c κs. search needs) (λ c. search needs) returns returns-2
+    returns-3)

@@ -6,9 +6,6 @@ use lib.Seq.{take-all}
 use denote.Ref.{now}
 use native.Mathlib.Omega.{arith}
 
-high-water-requires : tie.Need-high-water-requires
-high-water-requires c κs = search needs
-
 returns : tie.Need-returns
 unfolding found
 returns c = rw (c .before .if1 .taken, take-all 8192 (now (c .before .before .before .args .out)) (omega arith), ← (c .high-water .ensures))
@@ -18,4 +15,4 @@ unfolding found
 returns-2 c = rw (c .if1 .left)
 
 pub whole-read-turn-spec : {M : Type 1} → statement M
-whole-read-turn-spec = tie.close (tie.spec high-water-requires returns returns-2)
+whole-read-turn-spec = tie.close (tie.spec (λ c κs. search needs) returns returns-2)

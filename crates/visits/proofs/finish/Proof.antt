@@ -6,11 +6,8 @@ use Rattle.stages.specs.declared.stage.Turn.the-variants.{Open}
 use Rattle.visits.proofs.finish.Statement.{statement}
 use Rattle.visits.proofs.finish.Tie as tie
 
-new-requires : tie.Need-new-requires
-new-requires c κs = search needs
-
 returns : tie.Need-returns
 returns c = ap (λ (s : Switch). Open (c .before .args .m) (G.FinishOff s)) (c .new .ensures)
 
 pub finish-spec : {M : Type 1} → statement M
-finish-spec = tie.close (tie.spec new-requires returns)
+finish-spec = tie.close (tie.spec (λ c κs. search needs) returns)

@@ -15,26 +15,8 @@ upTo : (m : Message) (place len end : ℕ) → m ≡ message.At place len → en
     → _≡_ {A = Cursor} (record { at = place; end = end }) (startOf m)
 upTo m place len end is e = ap (λ (n : ℕ). record { at = place; end = n }) e ∙ ap startOf (sym is)
 
-enum-known-m : tie.Need-enum-known-m
-enum-known-m c = search needs
-
-sub-room : tie.Need-sub-room
-sub-room c = search needs
-
-add-t7 : tie.Need-add-t7
-add-t7 c = search needs
-
 returns : tie.Need-returns
 returns c = upTo _ _ _ _ (c .before .before .m .given .1) (omega arith)
-
-enum-told : tie.Need-enum-told
-enum-told c = search needs
-
-enum-told-2 : tie.Need-enum-told-2
-enum-told-2 c = search needs
-
-enum-told-3 : tie.Need-enum-told-3
-enum-told-3 c = search needs
 
 returns-2 : tie.Need-returns-2
 returns-2 c = upTo _ _ _ _ (c .before .before .m .given .1) (omega arith)
@@ -51,15 +33,5 @@ returns-5 c = ap startOf (sym (c .enum-told3 .given .1))
 pub start-spec : {M : Type 1} → statement M
 start-spec =
     tie.close
-    (tie.spec
-    enum-known-m
-    sub-room
-    add-t7
-    returns
-    enum-told
-    enum-told-2
-    enum-told-3
-    returns-2
-    returns-3
-    returns-4
-    returns-5)
+    (tie.spec (λ c. search needs) (λ c. search needs) (λ c. search needs) returns (λ c. search needs)
+    (λ c. search needs) (λ c. search needs) returns-2 returns-3 returns-4 returns-5)

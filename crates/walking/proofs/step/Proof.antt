@@ -28,15 +28,6 @@ returns-2 : tie.Need-returns-2
 unfolding stepOf
 returns-2 c = simp (le-ltb _ _ (c .before .before .if1 .left), le-leb _ _ (c .before .if2 .taken)) (c .stopped2 .ensures)
 
-sub-rest : tie.Need-sub-rest
-sub-rest c = search needs
-
-part-rest-start : tie.Need-part-rest-start
-part-rest-start c = search needs
-
-part-rest-end : tie.Need-part-rest-end
-part-rest-end c = search needs
-
 is-plain-requires : tie.Need-is-plain-requires
 is-plain-requires c κs = tt
 
@@ -72,20 +63,6 @@ returns-4 c = simp (le-ltb _ _ (c .before .before .before .before .before .if1 .
 pub step-spec : {M : Type 1} → statement M
 step-spec =
     tie.close
-    (tie.spec
-    back-requires
-    back-requires-2
-    stopped-requires
-    returns
-    stopped-requires-2
-    returns-2
-    sub-rest
-    part-rest-start
-    part-rest-end
-    is-plain-requires
-    shared-slice-read-step-on
-    shared-slice-read-step-on-2
-    step-on-requires
-    returns-3
-    step-on-requires-2
-    returns-4)
+    (tie.spec back-requires back-requires-2 stopped-requires returns stopped-requires-2 returns-2 (λ c. search needs)
+    (λ c. search needs) (λ c. search needs) is-plain-requires shared-slice-read-step-on shared-slice-read-step-on-2
+    step-on-requires returns-3 step-on-requires-2 returns-4)

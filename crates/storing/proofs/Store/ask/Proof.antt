@@ -2,21 +2,6 @@ use borrow.Author.Needs.{needs}
 use Rattle.storing.proofs.Store.ask.Statement.{statement}
 use Rattle.storing.proofs.Store.ask.Tie as tie
 
-enum-told : tie.Need-enum-told
-enum-told c = search needs
-
-enum-told-2 : tie.Need-enum-told-2
-enum-told-2 c = search needs
-
-enum-known-self : tie.Need-enum-known-self
-enum-known-self c = search needs
-
-ask-requires : tie.Need-ask-requires
-ask-requires c κs = search needs
-
-enum-told-3 : tie.Need-enum-told-3
-enum-told-3 c = search needs
-
 returns : tie.Need-returns
 returns c = rw (c .enum-told .given .1)
 
@@ -32,13 +17,5 @@ returns-4 c = rw (c .enum-told3 .given .1)
 pub ask-spec : {M : Type 1} → statement M
 ask-spec =
     tie.close
-    (tie.spec
-    enum-told
-    enum-told-2
-    enum-known-self
-    ask-requires
-    enum-told-3
-    returns
-    returns-2
-    returns-3
-    returns-4)
+    (tie.spec (λ c. search needs) (λ c. search needs) (λ c. search needs) (λ c κs. search needs) (λ c. search needs)
+    returns returns-2 returns-3 returns-4)

@@ -5,56 +5,14 @@ use mathlib.Core.Path.{subst}
 use Rattle.telling.specs.Step.{AskFits}
 use native.Mathlib.Omega.{arith}
 
-enum-known-a : tie.Need-enum-known-a
-enum-known-a c = search needs
-
-step-requires : tie.Need-step-requires
-step-requires c κs = search needs
-
-enum-known-a-2 : tie.Need-enum-known-a-2
-enum-known-a-2 c = search needs
-
-step-requires-2 : tie.Need-step-requires-2
-step-requires-2 c κs = search needs
-
-enum-told : tie.Need-enum-told
-enum-told c = search needs
-
-step-requires-3 : tie.Need-step-requires-3
-step-requires-3 c κs = search needs
-
-enum-told-2 : tie.Need-enum-told-2
-enum-told-2 c = search needs
-
-step-requires-4 : tie.Need-step-requires-4
-step-requires-4 c κs = search needs
-
-enum-known-a-3 : tie.Need-enum-known-a-3
-enum-known-a-3 c = search needs
-
 add-step : tie.Need-add-step
 add-step c = let h = subst (AskFits 8192) (c .before .a3 .given .1) (c .before .before .before .pre) in omega (arith, h .0, h .1)
 
 step-requires-5 : tie.Need-step-requires-5
 step-requires-5 c κs = let h = subst (AskFits 8192) (c .before .a3 .given .1) (c .before .before .before .pre) in (omega (arith, h .0, h .1), omega arith)
 
-enum-known-a-4 : tie.Need-enum-known-a-4
-enum-known-a-4 c = search needs
-
-read-kind-requires : tie.Need-read-kind-requires
-read-kind-requires c κs = search needs
-
 step-requires-6 : tie.Need-step-requires-6
 step-requires-6 c κs = let h = subst (AskFits 8192) (c .before .before .a4 .given .1) (c .before .before .before .before .pre) in (omega arith, omega (arith, h))
-
-enum-known-a-5 : tie.Need-enum-known-a-5
-enum-known-a-5 c = search needs
-
-wide-requires : tie.Need-wide-requires
-wide-requires c κs = search needs
-
-step-requires-7 : tie.Need-step-requires-7
-step-requires-7 c κs = search needs
 
 returns : tie.Need-returns
 returns c = rw (c .before .before .a .given .1) (c .step .ensures)
@@ -80,28 +38,7 @@ returns-7 c = rw (c .before .before .before .a5 .given .1, ← (c .before .wide 
 pub ask-step-spec : {M : Type 1} → statement M
 ask-step-spec =
     tie.close
-    (tie.spec
-    enum-known-a
-    step-requires
-    enum-known-a-2
-    step-requires-2
-    enum-told
-    step-requires-3
-    enum-told-2
-    step-requires-4
-    enum-known-a-3
-    add-step
-    step-requires-5
-    enum-known-a-4
-    read-kind-requires
-    step-requires-6
-    enum-known-a-5
-    wide-requires
-    step-requires-7
-    returns
-    returns-2
-    returns-3
-    returns-4
-    returns-5
-    returns-6
-    returns-7)
+    (tie.spec (λ c. search needs) (λ c κs. search needs) (λ c. search needs) (λ c κs. search needs)
+    (λ c. search needs) (λ c κs. search needs) (λ c. search needs) (λ c κs. search needs) (λ c. search needs) add-step
+    step-requires-5 (λ c. search needs) (λ c κs. search needs) step-requires-6 (λ c. search needs)
+    (λ c κs. search needs) (λ c κs. search needs) returns returns-2 returns-3 returns-4 returns-5 returns-6 returns-7)

@@ -3,15 +3,6 @@ use Rattle.machine.proofs.wait.Wait.step.Statement.{statement}
 use Rattle.machine.proofs.wait.Wait.step.Tie as tie
 use Rattle.machine.proofs.Waits.{poll-after}
 
-enum-known-self : tie.Need-enum-known-self
-enum-known-self c = search needs
-
-enum-known-self-2 : tie.Need-enum-known-self-2
-enum-known-self-2 c = search needs
-
-sub-t11 : tie.Need-sub-t11
-sub-t11 c = search needs
-
 returns : tie.Need-returns
 returns c = rw (c .before .before .self .given .1, c .if1 .taken)
 
@@ -27,4 +18,4 @@ returns-4 c = rw (c .before .before .self2 .given .1) (poll-after _ (c .if2 .lef
 pub step-spec : {M : Type 1} → statement M
 step-spec =
     tie.close
-    (tie.spec enum-known-self enum-known-self-2 sub-t11 returns returns-2 returns-3 returns-4)
+    (tie.spec (λ c. search needs) (λ c. search needs) (λ c. search needs) returns returns-2 returns-3 returns-4)
