@@ -77,7 +77,7 @@ pub fn frame(a: Ask, lent: &[u8]) -> [u8; 19]
 }
 
 // A frame over the front of the transfer buffer. What stands after the place goes first, so that the compiler stores the place's two
-// bytes at once: a host that then reads them at once would wait for two stores.
+// bytes at once: a host that reads them at once would else wait for two stores.
 pub fn write_frame(transfer: &mut [u8], bytes: &[u8]) -> usize
     requires { ⌜ (length (now bytes) ≡ 19) × (19 ≤ length (now transfer)) ⌝ }
     ensures { λ r. ⌜ Wrote (now (transfer .entry)) 0 (now (bytes .entry)) (now (transfer .exit)) r ⌝ }

@@ -1,5 +1,6 @@
 -- One record off the front of a message.
 -- Document 01, 'Bytes from a phone'; NFC Forum NDEF 1.0, section 3.2 (record layout), 3.2.1 to 3.2.12 (its fields).
+-- Plain and PlainOf are from no public document: which records the code reads by a way of their own. Only inner functions ask for them.
 --
 --   placesIn s h k i p        == the places of a record whose type name stands at k, with i bytes of id and p of payload
 --   wholeOf s h k i p         == that record, or Truncated where it runs past s
