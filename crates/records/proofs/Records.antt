@@ -18,7 +18,8 @@ use Rattle.records.specs.declared.Record.{Record}
 use Rattle.records.specs.declared.Parsed.{Parsed}
 use Rattle.records.specs.declared.Parsed.the-variants as parsed
 use Rattle.heads.specs.Heads.{flag, headLen, idLen, payloadLen}
-use Rattle.records.specs.Parse.{wholeOf, parseOf, Plain, endOf}
+use Rattle.records.specs.Parse.{wholeOf, parseOf, endOf}
+use Rattle.records.specs.Plain.{Plain}
 use Rattle.heads.proofs.Heads.{head-at, head-least, short-no-id}
 
 abbrev Sound : List ℕ → Parsed → Type 0

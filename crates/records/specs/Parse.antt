@@ -1,18 +1,14 @@
 -- One record off the front of a message.
 -- Document 01, 'Bytes from a phone'; NFC Forum NDEF 1.0, section 3.2 (record layout), 3.2.1 to 3.2.12 (its fields).
--- Plain and PlainOf are from no public document: which records the code reads by a way of their own. Only inner functions ask for them.
 --
 --   placesIn s h k i p        == the places of a record whose type name stands at k, with i bytes of id and p of payload
 --   wholeOf s h k i p         == that record, or Truncated where it runs past s
 --   parseOf s                 == the record at the front of s. The chunk flag is judged first; nothing, a head or a part that is not
 --                                all there is Truncated. Message-begin and the format are not judged
---   Plain s                   == s begins with the head of a record that is short, has no id, is not split and is not the last
---   PlainOf s k p             == so does s, and the lengths of that record's type name and payload are k and p
 --   endOf r                   == the place after the record r
 --   numberOf p                == document 01's number: 13, 14, and 0 for a record
-use mathlib.Core.Path.{_≡_}
 use mathlib.Core.List.{List}
-use Prim.Native.Nat.{ℕ, _+_, _/_, _%_, _<_}
+use Prim.Native.Nat.{ℕ, _+_, _%_}
 use lib.ListN.{length, getD}
 use lib.Dec.{ltb}
 use Rattle.slices.specs.Pick.{pick}
@@ -40,13 +36,6 @@ parseOf s =
     pick (flag 0x20 (getD s 0 0)) parsed.Chunked
     (pick (ltb (length s) (headLen (getD s 0 0))) parsed.Truncated
     (wholeOf s (getD s 0 0) (headLen (getD s 0 0)) (idLen s) (payloadLen s)))
-
--- bits 3 to 6 of the header: 08 id, 10 short, 20 chunk, 40 last
-abbrev pub Plain : List ℕ → Type 0
-Plain s = (2 < length s) × (getD s 0 0 / 8 % 16 ≡ 2)
-
-abbrev pub PlainOf : List ℕ → ℕ → ℕ → Type 0
-PlainOf s k p = Plain s × ((k ≡ getD s 1 0) × (p ≡ getD s 2 0))
 
 abbrev pub endOf : Record → ℕ
 endOf r = r .kind + r .«kind_len» + r .«id_len» + r .«payload_len»
