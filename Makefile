@@ -1,5 +1,5 @@
 # Skipnadur. 'make demo' shows the product at work, 'make test' is the whole gate.
-.PHONY: demo test cuts lib install bench fuzz compare vectors fmt clean
+.PHONY: demo test cuts lib install bench fuzz compare vectors peers fmt clean
 
 PREFIX = /usr/local
 
@@ -37,6 +37,10 @@ compare:
 # The fixed list of the Rust's answers, which the gate replays with no Rust at hand.
 vectors:
 	@tools/compare vectors crates/answers
+
+# The port against programs that others wrote from the same documents: make peers N=100000 S=7
+peers:
+	@tools/peers $(if $(N),-n $(N)) $(if $(S),-s $(S))
 
 fmt:
 	@rt fmt

@@ -1,4 +1,5 @@
-//! The port against the Rust original: the same inputs, one process, the best of many rounds, turn and turn about.
+//! The port against the Rust original: the same inputs, one process, turn and turn about; the middle of many rounds.
+mod layout;
 mod part;
 mod port;
 mod session;
@@ -7,52 +8,71 @@ use catcard_nfc::{self as original, tag};
 use std::hint::black_box;
 use std::time::Instant;
 
-const ROUNDS: usize = 200;
+const ROUNDS: usize = 1000;
 const MIME: &[u8] = original::OCTET_STREAM;
-
-/// The shortest time of one run, in nanoseconds, over runs that take about a millisecond together.
-struct Clock {
-    often: u32,
-    best: f64,
-}
-
-impl Clock {
-    fn new(job: &mut dyn FnMut()) -> Self {
-        let mut often = 1;
-        loop {
-            let start = Instant::now();
-            (0..often).for_each(|_| job());
-            if start.elapsed().as_micros() > 1000 || often > 1 << 24 {
-                return Self { often, best: f64::MAX };
-            }
-            often *= 2;
-        }
-    }
-
-    fn round(&mut self, job: &mut dyn FnMut()) {
-        let start = Instant::now();
-        (0..self.often).for_each(|_| job());
-        self.best = self.best.min(start.elapsed().as_nanos() as f64 / f64::from(self.often));
-    }
-}
 
 /// What comes out must not be worked out beforehand, nor left out.
 fn sink<T>(made: T) {
     black_box(made);
 }
 
-/// Both sides, turn and turn about.
-fn both(mut rust: impl FnMut(), mut port: impl FnMut()) -> (f64, f64) {
-    let (mut a, mut b) = (Clock::new(&mut rust), Clock::new(&mut port));
-    for _ in 0..ROUNDS {
-        a.round(&mut rust);
-        b.round(&mut port);
+/// A job that is told how often to run.
+type Job<'a> = &'a mut dyn FnMut(u32);
+
+/// How often a job runs in a fifth of a millisecond, to a power of two.
+fn often(job: Job) -> u32 {
+    let mut often = 1;
+    while timed(job, often) * f64::from(often) < 200_000.0 && often < 1 << 22 {
+        often *= 2;
     }
-    (a.best, b.best)
+    often
 }
 
-fn line(job: &str, goal: &str, (rust, port): (f64, f64)) {
-    println!("| {job} | {rust:.1} | {port:.1} | {:.2} | {goal} |", port / rust);
+/// The time of one run, in nanoseconds.
+fn timed(job: Job, often: u32) -> f64 {
+    let start = Instant::now();
+    job(often);
+    start.elapsed().as_nanos() as f64 / f64::from(often)
+}
+
+/// The jobs turn and turn about, in short rounds: what slows the machine for a while slows all of them.
+fn rounds<const N: usize>(mut jobs: [Job; N]) -> Vec<[f64; N]> {
+    let counts = jobs.each_mut().map(|job| often(job));
+    (0..ROUNDS)
+        .map(|_| {
+            let mut times = [0.0; N];
+            for i in 0..N {
+                times[i] = timed(jobs[i], counts[i]);
+            }
+            times
+        })
+        .collect()
+}
+
+fn both(mut rust: impl FnMut(), mut port: impl FnMut()) -> Vec<[f64; 2]> {
+    rounds([&mut |n| (0..n).for_each(|_| rust()), &mut |n| (0..n).for_each(|_| port())])
+}
+
+/// Both sides' times, of three jobs.
+fn whole(times: &[[f64; 3]]) -> Vec<[f64; 2]> {
+    times.iter().map(|[rust, port, _]| [*rust, *port]).collect()
+}
+
+/// Both sides' times over `n`, the third job's taken off.
+fn share(times: &[[f64; 3]], n: f64) -> Vec<[f64; 2]> {
+    times.iter().map(|[rust, port, bare]| [(rust - bare) / n, (port - bare) / n]).collect()
+}
+
+fn median(values: impl Iterator<Item = f64>) -> f64 {
+    let mut values: Vec<f64> = values.collect();
+    values.sort_by(f64::total_cmp);
+    values[values.len() / 2]
+}
+
+fn line(job: &str, goal: &str, times: &[[f64; 2]]) {
+    let side = |i: usize| median(times.iter().map(|t| t[i]));
+    let ratio = median(times.iter().map(|[rust, port]| port / rust));
+    println!("| {job} | {:.1} | {:.1} | {ratio:.2} | {goal} |", side(0), side(1));
 }
 
 fn building() {
@@ -79,7 +99,7 @@ fn building() {
         },
     );
     assert_eq!(a, b);
-    line("build a 9-byte text image", "1.0", times);
+    line("build a 9-byte text image", "1.0", &times);
 
     let payload: Vec<u8> = (0..4096u32).map(|i| (i * 7) as u8).collect();
     let (mut a, mut b) = (vec![0u8; 4200], vec![0u8; 4200]);
@@ -105,7 +125,7 @@ fn building() {
         },
     );
     assert_eq!(a, b);
-    line("build a 4 KB MIME image", "1.0", times);
+    line("build a 4 KB MIME image", "1.0", &times);
 }
 
 /// 8 KB with as many records of seven bytes as fit.
@@ -190,7 +210,7 @@ fn texts() {
                 })
             },
         );
-        line(&format!("UTF-8 over 8 KB, {name}"), "1.0", times);
+        line(&format!("UTF-8 over 8 KB, {name}"), "1.0", &times);
     }
 }
 
@@ -199,7 +219,7 @@ fn reading() {
     assert_eq!(walk_original(&image), walk_port(&image));
     let times =
         both(|| sink(walk_original(black_box(&image))), || sink(walk_port(black_box(&image))));
-    line("read and walk 8 KB of 1,168 records", "1.0", times);
+    line("read and walk 8 KB of 1,168 records", "1.0", &times);
 }
 
 fn marks() {
@@ -213,7 +233,7 @@ fn marks() {
             || sink(tag::high_water(black_box(&image))),
             || sink(unsafe { port::skp_high_water(black_box(image.as_ptr()), 8192) }),
         );
-        line(&format!("`high_water`, 8 KB {name}"), "far below 1", times);
+        line(&format!("`high_water`, 8 KB {name}"), "far below 1", &times);
     }
 }
 
@@ -235,36 +255,34 @@ fn sessions() {
     assert!(a == b && Some(&heard) == host.part.heard.as_ref() && part.memory == host.part.memory);
     host.part.heard = None;
 
-    let mut rust = Some(part);
-    let whole = both(
-        || rust = Some(session::original(&story, rust.take().unwrap(), &mut a)),
-        || session::port(&story, &mut host, &mut b),
-    );
-    let mut part = story.part();
-    let (bare, _) = both(|| session::bare(&mut part, &heard, &mut c), || {});
+    let (mut rust, mut bare) = (Some(part), story.part());
+    let times = rounds([
+        &mut |n| {
+            (0..n)
+                .for_each(|_| rust = Some(session::original(&story, rust.take().unwrap(), &mut a)))
+        },
+        &mut |n| (0..n).for_each(|_| session::port(&story, &mut host, &mut b)),
+        &mut |n| (0..n).for_each(|_| session::bare(&mut bare, &heard, &mut c)),
+    ]);
     let steps = heard.len() as f64;
-    line(&format!("a whole session, {steps} transfers, with the part's share"), "1.5", whole);
     line(
-        "one step of it, the part's share taken off",
+        &format!("a whole session, {steps} transfers, with the part's share"),
         "1.5",
-        ((whole.0 - bare) / steps, (whole.1 - bare) / steps),
+        &whole(&times),
     );
+    line("one step of it, the part's share taken off", "1.5", &share(&times, steps));
 
-    let mut clean = Some(part::Part::new());
+    let (mut clean, mut bare) = (Some(part::Part::new()), part::Part::new());
     let mut host = session::Host::new(part::Part::new());
-    let scan = both(
-        || clean = Some(session::scan_original(clean.take().unwrap())),
-        || session::scan_port(&mut host),
-    );
     let reads: Vec<_> = (0..128u16).map(|i| (0x53, (i * 64).to_be_bytes().to_vec(), 64)).collect();
-    let mut part = part::Part::new();
-    let (bare, _) = both(|| session::bare(&mut part, &reads, &mut c), || {});
-    line("the wipe's scan of a clean tile, 128 reads, with the part's share", "far below 1", scan);
-    line(
-        "one read of it, the part's share taken off",
-        "far below 1",
-        ((scan.0 - bare) / 128.0, (scan.1 - bare) / 128.0),
-    );
+    let times = rounds([
+        &mut |n| (0..n).for_each(|_| clean = Some(session::scan_original(clean.take().unwrap()))),
+        &mut |n| (0..n).for_each(|_| session::scan_port(&mut host)),
+        &mut |n| (0..n).for_each(|_| session::bare(&mut bare, &reads, &mut c)),
+    ]);
+    let name = "the wipe's scan of a clean tile, 128 reads, with the part's share";
+    line(name, "far below 1", &whole(&times));
+    line("one read of it, the part's share taken off", "far below 1", &share(&times, 128.0));
 }
 
 fn main() {

@@ -4,8 +4,10 @@ ghost use lib.ListN.{length};
 ghost use Rattle.layout.specs.Image.{uriImage};
 ghost use Rattle.judging.specs.Judge.{answer, after};
 ghost use Rattle.image.specs.Builds.{uriVerdict};
+use joins::put_image;
 use judging::Built;
-use textual::text_with;
+use layout::refusal::Verdict;
+use textual::judge_text;
 
 // The image of a URI: its prefix's code, and the rest.
 pub fn uri_image(out: &mut [u8], area: usize, uri: &[u8], prefix: u8) -> Built
@@ -13,5 +15,8 @@ pub fn uri_image(out: &mut [u8], area: usize, uri: &[u8], prefix: u8) -> Built
     ensures { λ _. ⌜ now (out .exit) ≡ after (uriVerdict (length (now (out .entry))) area prefix (now (uri .entry))) (uriImage area prefix (now (uri .entry))) (now (out .entry)) ⌝ }
 {
     let head = [prefix];
-    text_with(out, area, b"U", &head, uri)
+    match judge_text(out.len(), area, &head, uri) {
+        Verdict::Not(why) => Built::Refused(why),
+        Verdict::Fits => Built::At(put_image(out, area, 1, b"U", &head, uri)),
+    }
 }

@@ -64,6 +64,14 @@ pub goes-on : (cs ds : List Check) → verdict cs ≡ Fits → verdict (cs ++ ds
 goes-on [] ds e = refl
 goes-on (c ∷ cs) ds e = pass (c .fails) (c .why) (verdict cs) (verdict (cs ++ ds)) (goes-on cs ds) e
 
+first : (b : Bool) (w : Refusal) (v v′ : Verdict) → (v′ ≡ Fits → v ≡ Fits) → pick b (Not w) v′ ≡ Fits → pick b (Not w) v ≡ Fits
+first true w v v′ f e = e
+first false w v v′ f e = f e
+
+pub fits-first : (cs ds : List Check) → verdict (cs ++ ds) ≡ Fits → verdict cs ≡ Fits
+fits-first [] ds e = refl
+fits-first (c ∷ cs) ds e = first (c .fails) (c .why) (verdict cs) (verdict (cs ++ ds)) (fits-first cs ds) e
+
 -- A text of two pieces: what was judged of their lengths, and then whether it is UTF-8.
 module _ (room area k : ℕ) (h t : List ℕ) where
   whole-length : {v : Verdict} → verdict (checks room area k (length h + length t)) ≡ v → verdict (checks room area k (length (h ++ t))) ≡ v
@@ -78,6 +86,11 @@ module _ (room area k : ℕ) (h t : List ℕ) where
   text-judged e u =
       goes-on (checks room area k (length (h ++ t))) (encoding t) (whole-length e)
       ∙ ap (λ (x : Bool). pick (not x) (Not NotUtf8) Fits) u
+
+  pub text-room : verdict (checks room area k (length (h ++ t)) ++ encoding t) ≡ Fits → Room room area k (length h + length t)
+  text-room e =
+      room-of room area k (length h + length t)
+      (ap (λ (n : ℕ). verdict (checks room area k n)) (sym (length-append h t)) ∙ fits-first (checks room area k (length (h ++ t))) (encoding t) e)
 
 -- A payload past 64 bits is judged like the largest 64-bit number: neither has room.
 too-long : (room area k p : ℕ) → room < imageLen k p

@@ -57,6 +57,13 @@ fn past_pieces(s: &[u8], from: usize, n: usize) -> usize
     i
 }
 
+// Past the ASCII at the front. The test of a block is dear beside the loads, so most of a long text goes by long ones.
+fn past_ascii(s: &[u8]) -> usize
+    ensures { λ r. ⌜ Skips (now (s .entry)) 0 r ⌝ }
+{
+    past_pieces(s, past_pieces(s, past_pieces(s, 0, 256), 64), 8)
+}
+
 // After a character of `n` bytes: past its like. Blocks of ASCII are tried at every eighth byte alone, so that single ASCII bytes
 // among others cost little. After a character of two bytes, blocks of 32 bytes of characters of one and two: shorter ones cost more in
 // text of that kind, longer ones are tried in vain where text of another kind is near.
@@ -86,7 +93,7 @@ fn past_like(s: &[u8], i: usize, n: usize) -> usize
 pub fn is_utf8(s: &[u8]) -> bool
     ensures { λ r. ⌜ r ≡ utf8 (now (s .entry)) ⌝ }
 {
-    let mut i = past_pieces(s, past_pieces(s, 0, 64), 8);
+    let mut i = past_ascii(s);
     while i < s.len() {
         let n = first_len(s, i);
         if n == 0 {

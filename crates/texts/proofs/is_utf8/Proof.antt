@@ -4,6 +4,7 @@ use Prim.Native.Nat.{_+_, _-_}
 use native.Mathlib.Omega.{arith}
 use lib.ListN.{length}
 use denote.Ref.{now}
+use borrow.Author.Needs.{needs}
 use Rattle.utf8.specs.Skips.{Skips}
 use Rattle.utf8.proofs.Skips.{skips-on, skips-char, skips-bad, skips-all}
 use Rattle.texts.proofs.is_utf8.Statement.{statement}
@@ -16,23 +17,17 @@ abbrev μ-loop : tie.MeasureT-loop
 μ-loop s i₀ i = length s - i
 
 -- past the character of the turn
-one : (c : tie.Else1 Inv-loop μ-loop) → Skips (now (c .before .before .before .before .before .before .before .args .s)) (c .before .before .before .loop .i) (c .before .before .before .loop .i + c .before .first-len .result)
+one : (c : tie.Else1 Inv-loop μ-loop) → Skips (now (c .before .before .before .before .before .before .args .s)) (c .before .before .before .loop .i) (c .before .before .before .loop .i + c .before .first-len .result)
 one c = skips-char _ _ (omega arith) (c .before .first-len .ensures) (c .if1 .left)
 
-past-pieces-requires : tie.Need-past-pieces-requires Inv-loop μ-loop
-past-pieces-requires c κs = (omega arith, omega arith)
-
-past-pieces-requires-2 : tie.Need-past-pieces-requires-2 Inv-loop μ-loop
-past-pieces-requires-2 c κs = (c .past-pieces .ensures .within, omega arith)
-
 loop-holds : tie.Need-loop-holds Inv-loop μ-loop
-loop-holds c = skips-on (c .before .past-pieces .ensures) (c .past-pieces2 .ensures)
+loop-holds c = c .past-ascii .ensures
 
 first-len-requires : tie.Need-first-len-requires Inv-loop μ-loop
 first-len-requires c κs = omega arith
 
 returns : tie.Need-returns Inv-loop μ-loop
-returns c = let p = c .before .before .before .before .before .before .before in let l = c .before .before .before .loop in sym (l .inv .same ∙ skips-bad (now (p .args .s)) (l .i) (omega arith) (c .before .first-len .ensures) (c .if1 .taken))
+returns c = let p = c .before .before .before .before .before .before in let l = c .before .before .before .loop in sym (l .inv .same ∙ skips-bad (now (p .args .s)) (l .i) (omega arith) (c .before .first-len .ensures) (c .if1 .taken))
 
 add-past-like : tie.Need-add-past-like Inv-loop μ-loop
 add-past-like c = let h = one c .within in omega arith
@@ -47,7 +42,7 @@ loop-again : tie.Need-loop-again Inv-loop μ-loop
 loop-again c = skips-on (c .before .before .before .before .loop .inv) (skips-on (one (c .before)) (c .past-like .ensures))
 
 returns-2 : tie.Need-returns-2 Inv-loop μ-loop
-returns-2 c = let p = c .before .before .before .before .before in let l = c .before .loop in sym (l .inv .same ∙ skips-all (now (p .args .s)) (l .i) (omega arith))
+returns-2 c = let p = c .before .before .before .before in let l = c .before .loop in sym (l .inv .same ∙ skips-all (now (p .args .s)) (l .i) (omega arith))
 
 pub is-utf8-spec : {M : Type 1} → statement M
 is-utf8-spec =
@@ -55,8 +50,7 @@ is-utf8-spec =
     (tie.spec
     Inv-loop
     μ-loop
-    past-pieces-requires
-    past-pieces-requires-2
+    (λ c κs. search needs)
     loop-holds
     first-len-requires
     returns
