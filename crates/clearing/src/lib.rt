@@ -9,13 +9,12 @@ use stages::stage::Stage;
 use stages::stage::Turn;
 use wipe::scrub::Scrubbed;
 
-// Where a wipe ends: the mark up to the end of its row, inside the part.
+// Where a wipe ends: the mark up to the end of its row. The part ends with a row, so that this lies inside it.
 pub fn wipe_end(m: usize) -> usize
     requires { ⌜ m ≤ 8192 ⌝ }
     ensures { λ r. ⌜ (r ≡ wipeEnd m) × (r ≤ 8192) ⌝ }
 {
-    let up = (m + 15) / 16 * 16;
-    if up < 8192 { up } else { 8192 }
+    (m + 15) / 16 * 16
 }
 
 // A wipe that is done leaves nothing: the mark is 0.

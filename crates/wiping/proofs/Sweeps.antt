@@ -1,37 +1,44 @@
 -- The read of a clean chunk leaves what the general way leaves.
-use mathlib.Core.Path.{_≡_, refl, sym, ap, _∙_}
-use mathlib.Core.Bool.{Bool, true, not, _&&_}
+use mathlib.Core.Path.{_≡_, refl, sym, ap, subst, _∙_}
+use mathlib.Core.Bool.{Bool, true, false, not, _&&_, _||_}
 use mathlib.Core.List.{List}
-use Prim.Native.Nat.{ℕ, _+_, _-_, _/_, _≤_}
+use Prim.Native.Nat.{ℕ, _+_, _-_, _*_, _/_, _%_, _≤_, _<_}
+use native.Mathlib.Omega.{arith}
 use lib.Dec.{eqb, ltb, leb}
 use lib.ListN.{length, take}
-use borrow.Author.Tests.{eqb-true, leb-true}
+use borrow.Author.Tests.{eqb-true, leb-true, eq-eqb}
 use Rattle.slices.specs.Bytes.{splice}
-use Rattle.slices.proofs.Truths.{both}
+use Rattle.slices.proofs.Truths.{both, both-so}
 use Rattle.scan.specs.Zeros.{blank}
+use Rattle.protocol.specs.Tag.{user}
+use Rattle.machine.specs.declared.ask.Ask.the-variants as A
+use Rattle.wipe.specs.Scrub.{sizeOf, scrubAsk}
 use Rattle.wipe.specs.declared.scrub.Chunk.{Chunk}
 use Rattle.wipe.specs.declared.scrub.Scrub.the-variants.{Read}
-use Rattle.session.specs.Sound.{chunkStop}
+use Rattle.session.specs.Sound.{chunkStop, scrubSound}
 use Rattle.numbers.specs.From.{chunkFrom}
 use Rattle.numbers.specs.declared.flat.Flat.{Flat}
-use Rattle.state.specs.Bytes.{bytesOf, flatOf}
+use Rattle.state.specs.Bytes.{bytesOf, twoAt, flatOf}
 use Rattle.kept.specs.Bytes.{Bytes}
 use Rattle.kept.proofs.Decode.{bytes-are}
-use Rattle.wiping.specs.Onward.{wipes, bare, moved, Move}
-use Rattle.wiping.specs.Sweep.{Passes, chunkBytes, swept, sweptLeft, Clean}
+use Rattle.kept.proofs.Chunks.{stop-inside, scrub-says}
+use Rattle.wiping.specs.Onward.{wipes, bare, moved, Onto, Move}
+use Rattle.wiping.specs.Sweep.{Whole, Passes, Reads, chunkBytes, swept, sweptLeft, Clean}
 use Rattle.wiping.specs.declared.after.Onward.the-variants as O
 use Rattle.wiping.specs.declared.sweep.Swept.{Swept}
 use Rattle.wiping.specs.declared.sweep.Swept.the-variants as S
-use Rattle.wiping.proofs.Cleans.{clean-led}
+use Rattle.wiping.proofs.Cleans.{not-last, clean-led}
 use Rattle.wiping.proofs.Wipings.{bare-says, read-sane, leads-led, read-moves}
 use Rattle.wiping.proofs.Shorts.{short-is}
 
 -- what the code of `passed` comes to
 pub passes : (m rows stop : ℕ) (p : Chunk) (got : List ℕ) (b : Bool) → stop ≡ chunkStop m p → (ltb 0 stop && leb rows (p .at / 16)) ≡ true
-    → (ltb 0 (p .left) && leb (p .at + 64) (p .end)) ≡ true → b ≡ blank (take 64 got) → b ≡ true
+    → p .at + 64 + 64 ≤ p .end → b ≡ blank (take 64 got) → b ≡ true
     → Passes m rows p got (S.To (record { left = p .left - 1; at = p .at + 64; end = p .end }))
-passes m rows stop p got b es h1 h2 eb hb =
-    (refl, leads-led m rows (Read p) got _ _ (read-sane m rows stop p es h1) refl refl (clean-led rows p got b h2 eb hb))
+passes m rows stop p got b es h1 j eb hb =
+    let s = read-sane m rows stop p es h1 in
+    let i : p .at + 64 ≤ p .end = omega arith in
+    (refl, j, leads-led m rows (Read p) got _ _ s refl refl (clean-led rows p got b (not-last m rows p s j) i eb hb))
 
 -- only the four bytes of the chunk change
 four-move : (f : Flat) (p : Chunk) → f .code .phase ≡ 1 → bare (f .code) (f .place) ≡ true → f .lent ≡ 0 → p .end ≡ f .place .end
@@ -49,34 +56,105 @@ four-move f p k b z e =
       lent = sym z i;
     })
 
--- what the code of `clean_of` tests
-pub sweep-says : (f : Flat) (w b : Bool) → w ≡ wipes (f .stage) (f .code .which) → b ≡ bare (f .code) (f .place)
-    → (w && eqb (f .code .phase) 1 && b && eqb (f .lent) 0 && leb (f .mark) 8192) ≡ true
-    → (wipes (f .stage) (f .code .which) ≡ true) × (f .code .phase ≡ 1) × (bare (f .code) (f .place) ≡ true) × (f .lent ≡ 0) × (f .mark ≤ 8192)
-sweep-says f w b ew eb e =
-    let h4 = both _ (leb (f .mark) 8192) e in
-    let h3 = both _ (eqb (f .lent) 0) (h4 .0) in
-    let h2 = both _ b (h3 .0) in
-    let h1 = both w (eqb (f .code .phase) 1) (h2 .0) in
-    (sym ew ∙ h1 .0, eqb-true (f .code .phase) 1 (h1 .1), sym eb ∙ h2 .1, eqb-true (f .lent) 0 (h3 .1), leb-true (f .mark) 8192 (h4 .1))
+by-either : {X : Type 0} (a b : Bool) → (a || b) ≡ true → (a ≡ true → X) → (b ≡ true → X) → X
+by-either true b e f g = f refl
+by-either false b e f g = g e
 
-module _ (l r : List ℕ) (f : Flat) (p : Chunk) (w b : Bool) (long : length l ≡ 20) (bytes : Bytes l) (hr : 64 ≤ length r) (ef : f ≡ flatOf l)
-    (ew : w ≡ wipes (f .stage) (f .code .which)) (eb : b ≡ bare (f .code) (f .place))
-    (e : (w && eqb (f .code .phase) 1 && b && eqb (f .lent) 0 && leb (f .mark) 8192) ≡ true) (ep : p ≡ chunkFrom (f .place)) where
-  clean-to : (q : Chunk) → Passes (f .mark) (f .rows) p r (S.To q) → Clean l r (S.To q)
-  clean-to q v t lent out ack ht hl ho ha =
-      let h = sweep-says f w b ew eb e in
-      let four : bytesOf (moved f (f .rows) (Read q)) ≡ swept l q =
-      four-move f q (h .1) (h .2) (h .3) (v .0 ∙ ap (λ (x : Chunk). x .end) ep)
-      ∙ ap (λ (x : List ℕ). splice x 12 (chunkBytes q)) (ap bytesOf ef ∙ bytes-are l long bytes) in
-      let move : Move f r (f .rows) (Read q) = read-moves f p r b (O.To (f .rows) (Read q)) eb (eb ∙ h .2) (h .1) ep (v .1) in
-      short-is l t r lent out ack long ht hr hl ho ha f ef (f .rows) (Read q) (h .0) (h .3) (h .4) move
-      ∙ (λ i. record { step = sweptLeft l q t r .step; state = four i; transfer = sweptLeft l q t r .transfer; reply = r })
+-- the four tags, from the number that they make
+tags-are : (s p i w k e : ℕ) → s < 256 → p < 256 → i < 256 → w < 256 → k < 256 → e < 256 → s + 256 * p + 65536 * i + 16777216 * w ≡ k + 256 + 16777216 * e
+    → (s ≡ k) × (p ≡ 1) × (i ≡ 0) × (w ≡ e)
+tags-are s p i w k e hs hp hi hw hk he h = (omega arith, omega arith, omega arith, omega arith)
+
+module _ (f : Flat) (s p i w : ℕ) (es : s ≡ f .stage) (ep : p ≡ f .code .phase) (ei : i ≡ f .code .inner) (ew : w ≡ f .code .which) (hs : s < 256)
+    (hp : p < 256) (hi : i < 256) (hw : w < 256) (a : f .code .count ≡ 0) (b : f .place .bits ≡ 0) (c : f .place .row ≡ 0) where
+  reads-as : (k e : ℕ) → k < 256 → e < 256 → wipes k e ≡ true → s + 256 * p + 65536 * i + 16777216 * w ≡ k + 256 + 16777216 * e → Reads f
+  reads-as k e hk he g h =
+      let t = tags-are s p i w k e hs hp hi hw hk he h in
+      let inner = both-so _ _ (eq-eqb (f .code .inner) 0 (sym ei ∙ t .2)) (eq-eqb (f .code .count) 0 a) in
+      record {
+        wiper = (λ j. wipes ((sym es ∙ t .0) j) ((sym ew ∙ t .3) j)) ∙ g;
+        phase = sym ep ∙ t .1;
+        bared = both-so _ _ (both-so _ _ inner (eq-eqb (f .place .bits) 0 b)) (eq-eqb (f .place .row) 0 c);
+      }
+
+  -- 12, 18, and 18 with RF stuck
+  reads-by : (n : ℕ) → n ≡ s + 256 * p + 65536 * i + 16777216 * w → (eqb n 268 || eqb n 274 || eqb n 16777490) ≡ true → Reads f
+  reads-by n en e =
+      by-either (eqb n 268 || eqb n 274) (eqb n 16777490) e
+      (λ x. by-either (eqb n 268) (eqb n 274) x (λ y. reads-as 12 0 (omega arith) (omega arith) refl (sym en ∙ eqb-true n 268 y))
+      (λ y. reads-as 18 0 (omega arith) (omega arith) refl (sym en ∙ eqb-true n 274 y)))
+      (λ y. reads-as 18 1 (omega arith) (omega arith) refl (sym en ∙ eqb-true n 16777490 y))
+
+-- what the code of `reads` tests
+pub reads-is : (f : Flat) (s p i w n : ℕ) (b : Bool) → (s ≡ f .stage) × (s < 256) → (p ≡ f .code .phase) × (p < 256) → (i ≡ f .code .inner) × (i < 256)
+    → (w ≡ f .code .which) × (w < 256) → n ≡ s + 256 * p + 65536 * i + 16777216 * w
+    → b ≡ ((eqb n 268 || eqb n 274 || eqb n 16777490) && eqb (f .code .count) 0 && eqb (f .place .bits) 0 && eqb (f .place .row) 0) → b ≡ true → Reads f
+reads-is f s p i w n b hs hp hi hw en eb e =
+    let h3 = both _ (eqb (f .place .row) 0) (sym eb ∙ e) in
+    let h2 = both _ (eqb (f .place .bits) 0) (h3 .0) in
+    let h1 = both _ (eqb (f .code .count) 0) (h2 .0) in
+    reads-by f s p i w (hs .0) (hp .0) (hi .0) (hw .0) (hs .1) (hp .1) (hi .1) (hw .1) (eqb-true (f .code .count) 0 (h1 .1))
+    (eqb-true (f .place .bits) 0 (h2 .1)) (eqb-true (f .place .row) 0 (h3 .1)) n en (h1 .0)
+
+-- what the code of `clean_of` tests
+pub sweep-says : (f : Flat) (w : Bool) → (w ≡ true → Reads f) → (w && eqb (f .place .left / 256) 0 && leb (f .mark) 8192) ≡ true
+    → Reads f × (f .place .left / 256 ≡ 0) × (f .mark ≤ 8192)
+sweep-says f w hw e =
+    let h2 = both _ (leb (f .mark) 8192) e in
+    let h1 = both w (eqb (f .place .left / 256) 0) (h2 .0) in
+    (hw (h1 .0), eqb-true (f .place .left / 256) 0 (h1 .1), leb-true (f .mark) 8192 (h2 .1))
+
+-- two bytes
+pub two-fits : (l : List ℕ) (i : ℕ) → Bytes l → twoAt l i < 65536
+two-fits l i bytes =
+    let h = bytes i in
+    let g = bytes (i + 1) in
+    omega (arith, h, g)
+
+-- rows that lie before a chunk are fewer than 65,536, so that no data is lent
+none-lent : (m rows lent : ℕ) (p : Chunk) → scrubSound m (rows + 65536 * lent) (Read p) ≡ true → lent ≡ 0
+none-lent m rows lent p s =
+    let h = scrub-says m (rows + 65536 * lent) (Read p) s in
+    let i = stop-inside m p (h .0) .1 in
+    let j = h .1 in
+    omega (arith, i, j)
+
+module _ (l r : List ℕ) (f : Flat) (p : Chunk) (w : Bool) (long : length l ≡ 20) (bytes : Bytes l) (hr : 64 ≤ length r) (ef : f ≡ flatOf l)
+    (hw : w ≡ true → Reads f) (e : (w && eqb (f .place .left / 256) 0 && leb (f .mark) 8192) ≡ true)
+    (ep : p ≡ record { left = f .place .left % 256; at = f .place .at; end = f .place .end }) where
+  -- the high byte of `left` is zero
+  low-byte : p ≡ chunkFrom (f .place)
+  low-byte =
+      let h = sweep-says f w hw e .1 in
+      let n : f .place .left % 256 ≡ f .place .left = omega (arith, h) in
+      ep ∙ (λ i. record { left = n i; at = f .place .at; end = f .place .end })
+
+  clean-to : (q : Chunk) → Passes (f .mark) (f .rows + 65536 * f .lent) p r (S.To q) → Clean l r (S.To q)
+  clean-to q v = (
+    v .1,
+    λ t lent out ack ht hl ho ha.
+        let h = sweep-says f w hw e in
+        let z = none-lent (f .mark) (f .rows) (f .lent) p (v .2 .sane) in
+        let k : f .rows + 65536 * f .lent ≡ f .rows = omega (arith, z) in
+        let o = subst (λ (n : ℕ). Onto (f .mark) n (Read p) r n (Read q)) k (v .2) in
+        let four : bytesOf (moved f (f .rows) (Read q)) ≡ swept l q =
+        four-move f q (h .0 .phase) (h .0 .bared) z (v .0 ∙ ap (λ (x : Chunk). x .end) ep)
+        ∙ ap (λ (x : List ℕ). splice x 12 (chunkBytes q)) (ap bytesOf ef ∙ bytes-are l long bytes) in
+        let move : Move f r (f .rows) (Read q) = read-moves f p r true (O.To (f .rows) (Read q)) (sym (h .0 .bared)) refl (h .0 .phase) low-byte o in
+        short-is l t r lent out ack long ht hr hl ho ha f ef (f .rows) (Read q) (h .0 .wiper) z (h .2) move
+        ∙ (λ i. record { step = sweptLeft l q t r .step; state = four i; transfer = sweptLeft l q t r .transfer; reply = r }),
+  )
 
   -- what the code of `clean_of` comes to
-  pub clean-is : (x : Swept) → Passes (f .mark) (f .rows) p r x → Clean l r x
+  pub clean-is : (x : Swept) → Passes (f .mark) (f .rows + 65536 * f .lent) p r x → Clean l r x
   clean-is (S.To q) v = clean-to q v
   clean-is S.Not v = tt
+
+-- the transfer that reads a whole chunk
+pub whole-asks : (p : Chunk) → Whole p → A.Read user (p .at) 64 ≡ scrubAsk (Read p)
+whole-asks p h =
+    let n : 64 ≡ sizeOf (p .at) (p .end) = omega (arith, h) in
+    ap (A.Read user (p .at)) n
 
 -- the lengths with which the code of `reply` looks for a clean chunk
 pub sweep-may : (s ack t r lent out : ℕ) → (eqb s 20 && not (eqb ack 0) && leb 19 t && leb 64 r && eqb lent 0 && eqb out 0) ≡ true

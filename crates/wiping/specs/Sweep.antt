@@ -1,15 +1,17 @@
 -- A wipe's read of a clean chunk, on the bytes of its state. On a clean tile nearly every step is one. From no public document: the way of
 -- docs/DECISIONS.md, 50. `Clean` says that it leaves what a reply leaves (telling/specs/Left).
 --
---   Passes m rows p got x == where x is a chunk: a wipe that reads the chunk p goes on to read x, as `Onto` says
+--   Whole p               == the chunk p has all its 64 bytes before the end of the wipe
+--   Passes m rows p got x == where x is a chunk: it is whole, and a wipe that reads the chunk p goes on to read it, as `Onto` says
+--   Reads f               == f are the numbers of a wipe that reads a chunk
 --   chunkBytes p          == four bytes of the state: the chunks left after p, and where p is
 --   swept l p             == the state's bytes l, with those of p in them
 --   sweptLeft l p t r     == what a step leaves that goes on to read the chunk p
---   Clean l r x           == where x is a chunk: an acknowledge that lends no data and no `out` leaves that
+--   Clean l r x           == where x is a chunk: it is whole, and an acknowledge that lends no data and no `out` leaves that
 use mathlib.Core.Path.{_≡_}
 use mathlib.Core.Bool.{true, false, not}
 use mathlib.Core.List.{List, [], _∷_, _++_}
-use Prim.Native.Nat.{ℕ, _/_, _%_, _≤_}
+use Prim.Native.Nat.{ℕ, _+_, _/_, _%_, _≤_}
 use lib.Dec.{eqb}
 use lib.ListN.{length, drop}
 use Rattle.slices.specs.Bytes.{splice}
@@ -20,13 +22,22 @@ use Rattle.wipe.specs.declared.scrub.Chunk.{Chunk}
 use Rattle.wipe.specs.declared.scrub.Scrub.the-variants.{Read}
 use Rattle.telling.specs.Step.{transferStep, padded}
 use Rattle.telling.specs.Left.{Left, replyLeft}
-use Rattle.wiping.specs.Onward.{Onto}
+use Rattle.numbers.specs.declared.flat.Flat.{Flat}
+use Rattle.wiping.specs.Onward.{wipes, bare, Onto}
 use Rattle.wiping.specs.declared.sweep.Swept.{Swept}
 use Rattle.wiping.specs.declared.sweep.Swept.the-variants as S
 
+abbrev pub Whole : Chunk → Type 0
+Whole p = p .at + 64 ≤ p .end
+
 abbrev pub Passes : ℕ → ℕ → Chunk → List ℕ → Swept → Type 0
-Passes m rows p got (S.To q) = (q .end ≡ p .end) × Onto m rows (Read p) got rows (Read q)
+Passes m rows p got (S.To q) = (q .end ≡ p .end) × Whole q × Onto m rows (Read p) got rows (Read q)
 Passes m rows p got S.Not = Unit
+
+pub record Reads (f : Flat) : Type 0 where
+  pub wiper : wipes (f .stage) (f .code .which) ≡ true
+  pub phase : f .code .phase ≡ 1
+  pub bared : bare (f .code) (f .place) ≡ true
 
 abbrev pub chunkBytes : Chunk → List ℕ
 chunkBytes p = p .left % 256 ∷ p .left / 256 % 256 ∷ p .at % 256 ∷ p .at / 256 % 256 ∷ []
@@ -44,6 +55,7 @@ sweptLeft l p t r = record {
 
 abbrev pub Clean : List ℕ → List ℕ → Swept → Type 0
 Clean l r (S.To p) =
-    (t lent out : List ℕ) (ack : ℕ) → 19 ≤ length t → length lent ≡ 0 → length out ≡ 0 → not (eqb ack 0) ≡ true
-    → replyLeft l t r lent out ack ≡ sweptLeft l p t r
+    Whole p
+    × ((t lent out : List ℕ) (ack : ℕ) → 19 ≤ length t → length lent ≡ 0 → length out ≡ 0 → not (eqb ack 0) ≡ true
+    → replyLeft l t r lent out ack ≡ sweptLeft l p t r)
 Clean l r S.Not = Unit

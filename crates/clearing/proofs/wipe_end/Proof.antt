@@ -8,9 +8,5 @@ returns : tie.Need-returns
 unfolding wipeEnd
 returns c = (omega arith, omega arith)
 
-returns-2 : tie.Need-returns-2
-unfolding wipeEnd
-returns-2 c = (omega arith, omega arith)
-
 pub wipe-end-spec : {M : Type 1} → statement M
-wipe-end-spec = tie.close (tie.spec (λ c. search needs) (λ c. search needs) returns returns-2)
+wipe-end-spec = tie.close (tie.spec (λ c. search needs) (λ c. search needs) returns)

@@ -2,7 +2,6 @@ use borrow.Author.Needs.{needs}
 use Rattle.sweeping.proofs.passed.Statement.{statement}
 use Rattle.sweeping.proofs.passed.Tie as tie
 use denote.Ref.{now}
-use Prim.Native.Nat.{_+_}
 use Rattle.wipe.specs.declared.scrub.Scrub.the-variants.{Read}
 use Rattle.wiping.proofs.Cleans.{not-last}
 use Rattle.wiping.proofs.Wipings.{read-sane, near}
@@ -10,13 +9,16 @@ use Rattle.wiping.proofs.Sweeps.{passes}
 use native.Mathlib.Omega.{arith}
 
 add-next : tie.Need-add-next
-add-next c = let h = near (c .before .before .before .before .before .args .m) (c .before .before .before .before .before .args .rows) (Read (c .before .before .before .before .before .args .p)) (read-sane (c .before .before .before .before .before .args .m) (c .before .before .before .before .before .args .rows) (c .before .before .before .chunk-stop .result) (c .before .before .before .before .before .args .p) (c .before .before .before .chunk-stop .ensures .0) (c .before .if1 .taken)) in omega (arith, h)
+add-next c = let s = c .before .before .before .before .before .args in let k = c .before .before .before .chunk-stop in let h = near (s .m) (s .rows) (Read (s .p)) (read-sane (s .m) (s .rows) (k .result) (s .p) (k .ensures .0) (c .before .if1 .taken)) in omega (arith, h)
 
-sub-t15 : tie.Need-sub-t15
-sub-t15 c = not-last (c .before .before .before .before .before .before .before .before .before .before .before .args .p .left) (c .before .before .before .before .before .before .before .before .before .before .before .args .p .at + 64) (c .before .before .before .before .before .before .before .before .before .before .before .args .p .end) (c .before .before .before .if2 .taken)
+add-if2 : tie.Need-add-if2
+add-if2 c = let s = c .before .before .before .before .before .args in let k = c .before .before .before .chunk-stop in let h = near (s .m) (s .rows) (Read (s .p)) (read-sane (s .m) (s .rows) (k .result) (s .p) (k .ensures .0) (c .before .if1 .taken)) in omega (arith, h)
+
+sub-t14 : tie.Need-sub-t14
+sub-t14 c = let s = c .before .before .before .before .before .before .before .before .before .before .args in let k = c .before .before .before .before .before .before .before .before .chunk-stop in not-last (s .m) (s .rows) (s .p) (read-sane (s .m) (s .rows) (k .result) (s .p) (k .ensures .0) (c .before .before .before .before .before .before .if1 .taken)) (c .before .before .before .if2 .taken)
 
 returns : tie.Need-returns
-returns c = passes (c .before .before .before .before .before .before .before .before .before .before .before .args .m) (c .before .before .before .before .before .before .before .before .before .before .before .args .rows) (c .before .before .before .before .before .before .before .before .before .chunk-stop .result) (c .before .before .before .before .before .before .before .before .before .before .before .args .p) (now (c .before .before .before .before .before .before .before .before .before .before .before .args .reply)) (c .before .before .all-zero .result) (c .before .before .before .before .before .before .before .before .before .chunk-stop .ensures .0) (c .before .before .before .before .before .before .before .if1 .taken) (c .before .before .before .if2 .taken) (c .before .before .all-zero .ensures) (c .before .if3 .taken)
+returns c = let s = c .before .before .before .before .before .before .before .before .before .before .args in let k = c .before .before .before .before .before .before .before .before .chunk-stop in let z = c .before .before .all-zero in passes (s .m) (s .rows) (k .result) (s .p) (now (s .reply)) (z .result) (k .ensures .0) (c .before .before .before .before .before .before .if1 .taken) (c .before .before .before .if2 .taken) (z .ensures) (c .before .if3 .taken)
 
 returns-2 : tie.Need-returns-2
 returns-2 c = tt
@@ -30,4 +32,4 @@ returns-4 c = tt
 pub passed-spec : {M : Type 1} → statement M
 passed-spec =
     tie.close
-    (tie.spec (λ c κs. search needs) add-next (λ c κs. search needs) sub-t15 returns returns-2 returns-3 returns-4)
+    (tie.spec (λ c κs. search needs) add-next add-if2 (λ c κs. search needs) sub-t14 returns returns-2 returns-3 returns-4)
