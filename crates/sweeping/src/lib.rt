@@ -1,7 +1,7 @@
 // The read of a clean chunk, from the state's bytes to those of the next read. On a clean tile nearly every step is one, so it has a way
 // of its own: it is seen at once, and only what changes is written.
 ghost use mathlib.Core.Path.{_≡_};
-ghost use mathlib.Core.Bool.{true, false};
+ghost use mathlib.Core.Bool.{false};
 ghost use mathlib.Core.List.{[], _++_};
 ghost use Prim.Native.Nat.{_≤_};
 ghost use lib.ListN.{length, drop};
@@ -9,12 +9,12 @@ ghost use Rattle.protocol.specs.Transfer.{sent};
 ghost use Rattle.machine.specs.Ask.{meant};
 ghost use Rattle.wipe.specs.Scrub.{scrubAsk};
 ghost use Rattle.wipe.specs.declared.scrub.Scrub.the-variants.{Read};
+ghost use Rattle.state.specs.Bytes.{flatOf};
 ghost use Rattle.telling.specs.Step.{transferStep, padded};
-ghost use Rattle.wiping.specs.Sweep.{Whole, Passes, Reads, swept, Clean};
+ghost use Rattle.wiping.specs.Sweep.{Whole, Passes, tagsOf, swept, Clean};
 use framing::frame;
 use framing::write_frame;
 use machine::ask::Ask;
-use numbers::flat::Flat;
 use scan::all_zero;
 use session::session::Session;
 use slices::copy_to;
@@ -45,32 +45,34 @@ fn passed(m: usize, rows: usize, p: Chunk, reply: &[u8]) -> Swept
     Swept::Not
 }
 
-// The numbers of a wipe that reads a chunk. Its four tags are one number, which the compiler loads and tests at once: 12, or 18 with
-// RF switched off or stuck; then 1 for the read, and 0.
-fn reads(f: Flat) -> bool
-    ensures { λ r. ⌜ (r ≡ true → Reads f) ⌝ }
+// The four tags of a state as one number, which the compiler loads at once.
+fn tags(state: &[u8]) -> usize
+    requires { ⌜ length (now state) ≡ 20 ⌝ }
+    ensures { λ r. ⌜ r ≡ tagsOf (flatOf (now (state .entry))) ⌝ }
 {
-    let c = f.code;
-    let p = f.place;
-    let tags = wide(f.stage)
-        + 256 * wide(c.phase)
-        + 65536 * wide(c.inner)
-        + 16777216 * wide(c.which);
-    ((tags == 268) | (tags == 274) | (tags == 16777490))
-        & (c.count == 0)
-        & (p.bits == 0)
-        & (p.row == 0)
+    let low = wide(state[0]) + 256 * wide(state[1]);
+    let high = wide(state[2]) + 256 * wide(state[3]);
+    low + 65536 * high
 }
 
-// The chunk after the one that a wipe has read, where that is clean. A wipe has at most 128 chunks left, so that their number is read as
-// the one byte that the step before stored: a load of two would wait for two stores. Rows and data are tested as one number too.
+// The chunk after the one that a wipe has read, where that is clean. The tags of such a wipe are 12, or 18 with RF off or stuck; 1 for the
+// read; and 0. It has at most 128 chunks left, so that their number is read as the one byte that the step before stored: a load of two
+// might wait for two stores. Rows and data are tested as one number.
 pub fn clean_of(state: &[u8], reply: &[u8]) -> Swept
     requires { ⌜ (length (now state) ≡ 20) × (64 ≤ length (now reply)) ⌝ }
     ensures { λ r. ⌜ Clean (now (state .entry)) (now (reply .entry)) r ⌝ }
 {
+    let n = tags(state);
     let f = flat_of(state);
+    let c = f.code;
     let p = f.place;
-    if reads(f) & (p.left / 256 == 0) & (f.mark <= Session::USER_MEMORY) {
+    if ((n == 268) | (n == 274) | (n == 16777490))
+        & (c.count == 0)
+        & (p.bits == 0)
+        & (p.row == 0)
+        & (p.left / 256 == 0)
+        & (f.mark <= Session::USER_MEMORY)
+    {
         let read = Chunk {
             left: p.left % 256,
             at: p.at,

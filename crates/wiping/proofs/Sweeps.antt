@@ -23,7 +23,7 @@ use Rattle.kept.specs.Bytes.{Bytes}
 use Rattle.kept.proofs.Decode.{bytes-are}
 use Rattle.kept.proofs.Chunks.{stop-inside, scrub-says}
 use Rattle.wiping.specs.Onward.{wipes, bare, moved, Onto, Move}
-use Rattle.wiping.specs.Sweep.{Whole, Passes, Reads, chunkBytes, swept, sweptLeft, Clean}
+use Rattle.wiping.specs.Sweep.{Whole, Passes, Reads, tagsOf, chunkBytes, swept, sweptLeft, Clean}
 use Rattle.wiping.specs.declared.after.Onward.the-variants as O
 use Rattle.wiping.specs.declared.sweep.Swept.{Swept}
 use Rattle.wiping.specs.declared.sweep.Swept.the-variants as S
@@ -65,44 +65,47 @@ tags-are : (s p i w k e : ℕ) → s < 256 → p < 256 → i < 256 → w < 256 �
     → (s ≡ k) × (p ≡ 1) × (i ≡ 0) × (w ≡ e)
 tags-are s p i w k e hs hp hi hw hk he h = (omega arith, omega arith, omega arith, omega arith)
 
-module _ (f : Flat) (s p i w : ℕ) (es : s ≡ f .stage) (ep : p ≡ f .code .phase) (ei : i ≡ f .code .inner) (ew : w ≡ f .code .which) (hs : s < 256)
-    (hp : p < 256) (hi : i < 256) (hw : w < 256) (a : f .code .count ≡ 0) (b : f .place .bits ≡ 0) (c : f .place .row ≡ 0) where
-  reads-as : (k e : ℕ) → k < 256 → e < 256 → wipes k e ≡ true → s + 256 * p + 65536 * i + 16777216 * w ≡ k + 256 + 16777216 * e → Reads f
+-- the tags are bytes
+abbrev TagsFit : Flat → Type 0
+TagsFit f = (f .stage < 256) × (f .code .phase < 256) × (f .code .inner < 256) × (f .code .which < 256)
+
+pub tags-fit : (l : List ℕ) (f : Flat) → Bytes l → f ≡ flatOf l → TagsFit f
+tags-fit l f bytes ef = subst TagsFit (sym ef) (bytes 0, bytes 1, bytes 2, bytes 3)
+
+module _ (f : Flat) (fit : TagsFit f) (a : f .code .count ≡ 0) (b : f .place .bits ≡ 0) (c : f .place .row ≡ 0) where
+  reads-as : (k e : ℕ) → k < 256 → e < 256 → wipes k e ≡ true → tagsOf f ≡ k + 256 + 16777216 * e → Reads f
   reads-as k e hk he g h =
-      let t = tags-are s p i w k e hs hp hi hw hk he h in
-      let inner = both-so _ _ (eq-eqb (f .code .inner) 0 (sym ei ∙ t .2)) (eq-eqb (f .code .count) 0 a) in
+      let t = tags-are (f .stage) (f .code .phase) (f .code .inner) (f .code .which) k e (fit .0) (fit .1) (fit .2) (fit .3) hk he h in
+      let inner = both-so _ _ (eq-eqb (f .code .inner) 0 (t .2)) (eq-eqb (f .code .count) 0 a) in
       record {
-        wiper = (λ j. wipes ((sym es ∙ t .0) j) ((sym ew ∙ t .3) j)) ∙ g;
-        phase = sym ep ∙ t .1;
+        wiper = (λ j. wipes (t .0 j) (t .3 j)) ∙ g;
+        phase = t .1;
         bared = both-so _ _ (both-so _ _ inner (eq-eqb (f .place .bits) 0 b)) (eq-eqb (f .place .row) 0 c);
       }
 
   -- 12, 18, and 18 with RF stuck
-  reads-by : (n : ℕ) → n ≡ s + 256 * p + 65536 * i + 16777216 * w → (eqb n 268 || eqb n 274 || eqb n 16777490) ≡ true → Reads f
+  reads-by : (n : ℕ) → n ≡ tagsOf f → (eqb n 268 || eqb n 274 || eqb n 16777490) ≡ true → Reads f
   reads-by n en e =
       by-either (eqb n 268 || eqb n 274) (eqb n 16777490) e
       (λ x. by-either (eqb n 268) (eqb n 274) x (λ y. reads-as 12 0 (omega arith) (omega arith) refl (sym en ∙ eqb-true n 268 y))
       (λ y. reads-as 18 0 (omega arith) (omega arith) refl (sym en ∙ eqb-true n 274 y)))
       (λ y. reads-as 18 1 (omega arith) (omega arith) refl (sym en ∙ eqb-true n 16777490 y))
 
--- what the code of `reads` tests
-pub reads-is : (f : Flat) (s p i w n : ℕ) (b : Bool) → (s ≡ f .stage) × (s < 256) → (p ≡ f .code .phase) × (p < 256) → (i ≡ f .code .inner) × (i < 256)
-    → (w ≡ f .code .which) × (w < 256) → n ≡ s + 256 * p + 65536 * i + 16777216 * w
-    → b ≡ ((eqb n 268 || eqb n 274 || eqb n 16777490) && eqb (f .code .count) 0 && eqb (f .place .bits) 0 && eqb (f .place .row) 0) → b ≡ true → Reads f
-reads-is f s p i w n b hs hp hi hw en eb e =
-    let h3 = both _ (eqb (f .place .row) 0) (sym eb ∙ e) in
+-- what the code of `clean_of` tests, n being the tags
+abbrev tested : ℕ → Flat → Bool
+tested n f =
+    (eqb n 268 || eqb n 274 || eqb n 16777490) && eqb (f .code .count) 0 && eqb (f .place .bits) 0 && eqb (f .place .row) 0
+    && eqb (f .place .left / 256) 0 && leb (f .mark) 8192
+
+pub sweep-says : (f : Flat) (n : ℕ) → TagsFit f → n ≡ tagsOf f → tested n f ≡ true → Reads f × (f .place .left / 256 ≡ 0) × (f .mark ≤ 8192)
+sweep-says f n fit en e =
+    let h5 = both _ (leb (f .mark) 8192) e in
+    let h4 = both _ (eqb (f .place .left / 256) 0) (h5 .0) in
+    let h3 = both _ (eqb (f .place .row) 0) (h4 .0) in
     let h2 = both _ (eqb (f .place .bits) 0) (h3 .0) in
     let h1 = both _ (eqb (f .code .count) 0) (h2 .0) in
-    reads-by f s p i w (hs .0) (hp .0) (hi .0) (hw .0) (hs .1) (hp .1) (hi .1) (hw .1) (eqb-true (f .code .count) 0 (h1 .1))
-    (eqb-true (f .place .bits) 0 (h2 .1)) (eqb-true (f .place .row) 0 (h3 .1)) n en (h1 .0)
-
--- what the code of `clean_of` tests
-pub sweep-says : (f : Flat) (w : Bool) → (w ≡ true → Reads f) → (w && eqb (f .place .left / 256) 0 && leb (f .mark) 8192) ≡ true
-    → Reads f × (f .place .left / 256 ≡ 0) × (f .mark ≤ 8192)
-sweep-says f w hw e =
-    let h2 = both _ (leb (f .mark) 8192) e in
-    let h1 = both w (eqb (f .place .left / 256) 0) (h2 .0) in
-    (hw (h1 .0), eqb-true (f .place .left / 256) 0 (h1 .1), leb-true (f .mark) 8192 (h2 .1))
+    let r = reads-by f fit (eqb-true (f .code .count) 0 (h1 .1)) (eqb-true (f .place .bits) 0 (h2 .1)) (eqb-true (f .place .row) 0 (h3 .1)) n en (h1 .0) in
+    (r, eqb-true (f .place .left / 256) 0 (h4 .1), leb-true (f .mark) 8192 (h5 .1))
 
 -- two bytes
 pub two-fits : (l : List ℕ) (i : ℕ) → Bytes l → twoAt l i < 65536
@@ -119,24 +122,24 @@ none-lent m rows lent p s =
     let j = h .1 in
     omega (arith, i, j)
 
-module _ (l r : List ℕ) (f : Flat) (p : Chunk) (w : Bool) (long : length l ≡ 20) (bytes : Bytes l) (hr : 64 ≤ length r) (ef : f ≡ flatOf l)
-    (hw : w ≡ true → Reads f) (e : (w && eqb (f .place .left / 256) 0 && leb (f .mark) 8192) ≡ true)
+module _ (l r : List ℕ) (f : Flat) (p : Chunk) (n : ℕ) (long : length l ≡ 20) (bytes : Bytes l) (hr : 64 ≤ length r) (ef : f ≡ flatOf l)
+    (en : n ≡ tagsOf f) (e : tested n f ≡ true)
     (ep : p ≡ record { left = f .place .left % 256; at = f .place .at; end = f .place .end }) where
   -- the high byte of `left` is zero
   low-byte : p ≡ chunkFrom (f .place)
   low-byte =
-      let h = sweep-says f w hw e .1 in
-      let n : f .place .left % 256 ≡ f .place .left = omega (arith, h) in
-      ep ∙ (λ i. record { left = n i; at = f .place .at; end = f .place .end })
+      let h = sweep-says f n (tags-fit l f bytes ef) en e .1 in
+      let k : f .place .left % 256 ≡ f .place .left = omega (arith, h) in
+      ep ∙ (λ i. record { left = k i; at = f .place .at; end = f .place .end })
 
   clean-to : (q : Chunk) → Passes (f .mark) (f .rows + 65536 * f .lent) p r (S.To q) → Clean l r (S.To q)
   clean-to q v = (
     v .1,
     λ t lent out ack ht hl ho ha.
-        let h = sweep-says f w hw e in
+        let h = sweep-says f n (tags-fit l f bytes ef) en e in
         let z = none-lent (f .mark) (f .rows) (f .lent) p (v .2 .sane) in
         let k : f .rows + 65536 * f .lent ≡ f .rows = omega (arith, z) in
-        let o = subst (λ (n : ℕ). Onto (f .mark) n (Read p) r n (Read q)) k (v .2) in
+        let o = subst (λ (x : ℕ). Onto (f .mark) x (Read p) r x (Read q)) k (v .2) in
         let four : bytesOf (moved f (f .rows) (Read q)) ≡ swept l q =
         four-move f q (h .0 .phase) (h .0 .bared) z (v .0 ∙ ap (λ (x : Chunk). x .end) ep)
         ∙ ap (λ (x : List ℕ). splice x 12 (chunkBytes q)) (ap bytesOf ef ∙ bytes-are l long bytes) in

@@ -4,6 +4,7 @@
 --   Whole p               == the chunk p has all its 64 bytes before the end of the wipe
 --   Passes m rows p got x == where x is a chunk: it is whole, and a wipe that reads the chunk p goes on to read it, as `Onto` says
 --   Reads f               == f are the numbers of a wipe that reads a chunk
+--   tagsOf f              == the four tags of the numbers f as one number
 --   chunkBytes p          == four bytes of the state: the chunks left after p, and where p is
 --   swept l p             == the state's bytes l, with those of p in them
 --   sweptLeft l p t r     == what a step leaves that goes on to read the chunk p
@@ -11,7 +12,7 @@
 use mathlib.Core.Path.{_≡_}
 use mathlib.Core.Bool.{true, false, not}
 use mathlib.Core.List.{List, [], _∷_, _++_}
-use Prim.Native.Nat.{ℕ, _+_, _/_, _%_, _≤_}
+use Prim.Native.Nat.{ℕ, _+_, _*_, _/_, _%_, _≤_}
 use lib.Dec.{eqb}
 use lib.ListN.{length, drop}
 use Rattle.slices.specs.Bytes.{splice}
@@ -38,6 +39,9 @@ pub record Reads (f : Flat) : Type 0 where
   pub wiper : wipes (f .stage) (f .code .which) ≡ true
   pub phase : f .code .phase ≡ 1
   pub bared : bare (f .code) (f .place) ≡ true
+
+abbrev pub tagsOf : Flat → ℕ
+tagsOf f = f .stage + 256 * f .code .phase + 65536 * f .code .inner + 16777216 * f .code .which
 
 abbrev pub chunkBytes : Chunk → List ℕ
 chunkBytes p = p .left % 256 ∷ p .left / 256 % 256 ∷ p .at % 256 ∷ p .at / 256 % 256 ∷ []
