@@ -75,7 +75,7 @@ fn line(job: &str, goal: &str, times: &[[f64; 2]]) {
     println!("| {job} | {:.1} | {:.1} | {ratio:.2} | {goal} |", side(0), side(1));
 }
 
-fn building() {
+fn building_text() {
     let text = black_box("MARCHF1-9");
     let (mut a, mut b, mut values) = ([0u8; 64], [0u8; 64], [0u64; 2]);
     let times = both(
@@ -100,9 +100,11 @@ fn building() {
     );
     assert_eq!(a, b);
     line("build a 9-byte text image", "1.0", &times);
+}
 
+fn building_mime() {
     let payload: Vec<u8> = (0..4096u32).map(|i| (i * 7) as u8).collect();
-    let (mut a, mut b) = (vec![0u8; 4200], vec![0u8; 4200]);
+    let (mut a, mut b, mut values) = (vec![0u8; 4200], vec![0u8; 4200], [0u64; 2]);
     let times = both(
         || {
             black_box(original::mime_image(black_box(&mut a), 8184, MIME, black_box(&payload)))
@@ -237,8 +239,8 @@ fn marks() {
     }
 }
 
-/// A whole session and the wipe's scan. The part's own share, the same transfers with nobody to decide on them, is taken off both.
-fn sessions() {
+/// A whole session. The part's own share, the same transfers with nobody to decide on them, is taken off both.
+fn a_session() {
     let (mut label, mut partner) = (vec![0; 24], vec![0; 25]);
     original::text_image(&mut label, 8184, "MARCH1").unwrap();
     original::text_image(&mut partner, 8184, "HLA-DRA").unwrap();
@@ -271,8 +273,11 @@ fn sessions() {
         &whole(&times),
     );
     line("one step of it, the part's share taken off", "1.5", &share(&times, steps));
+}
 
-    let (mut clean, mut bare) = (Some(part::Part::new()), part::Part::new());
+/// The wipe's scan of a clean tile, and the part's share as for a session.
+fn a_scan() {
+    let (mut clean, mut bare, mut c) = (Some(part::Part::new()), part::Part::new(), vec![0; 8192]);
     let mut host = session::Host::new(part::Part::new());
     let reads: Vec<_> = (0..128u16).map(|i| (0x53, (i * 64).to_be_bytes().to_vec(), 64)).collect();
     let times = rounds([
@@ -287,9 +292,11 @@ fn sessions() {
 
 fn main() {
     println!("| job | Rust, ns | port, ns | ratio | goal |\n|---|---|---|---|---|");
-    building();
+    building_text();
+    building_mime();
     reading();
     texts();
     marks();
-    sessions();
+    a_session();
+    a_scan();
 }

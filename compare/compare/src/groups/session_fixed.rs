@@ -111,32 +111,8 @@ fn differences(cases: &mut Cases) -> io::Result<()> {
 fn out_of_turn(cases: &mut Cases) -> io::Result<()> {
     let mut host = Host::new(cases)?;
     let mut session = Session::new(3, Box::new(good()));
-    host.new_session(3)?;
-    host.ask_again()?;
-    host.refused_reply(1, &[1, 2, 3])?;
-    host.dirty()?;
-    // 33 at a start, also where 26 would come next.
-    host.lend(Lent { transfer: 18, ..ENOUGH })?;
-    host.refused_start(Call::Identify)?;
-    host.lend(Lent { reply: 63, data: 1, ..ENOUGH })?;
-    host.refused_start(Call::Write { at: 8_192, len: 1, seed: 1 })?;
-    host.lend(ENOUGH)?;
-    host.first_turns(&mut session, Call::Write { at: 60, len: 10, seed: 2 }, 1)?;
-    host.dirty()?;
-    host.ask_again()?;
-    host.put_transfer(&[0xEE; 24])?;
-    host.ask_again()?;
-    call::each().try_for_each(|call| host.refused_start(call))?;
-    for lent in [
-        Lent { transfer: 18, data: 10, ..ENOUGH },
-        Lent { reply: 63, data: 10, ..ENOUGH },
-        Lent { data: 9, ..ENOUGH },
-        Lent { data: 10, out: 1, ..ENOUGH },
-    ] {
-        host.lend(lent)?;
-        host.refused_reply(1, &[])?;
-        host.ask_again()?;
-    }
+    between_calls(&mut host)?;
+    inside_a_call(&mut host, &mut session)?;
     // A phone's write moves the mark with the reply to the status read.
     host.new_session(16)?;
     let wrote = Part { status: 0x80, ..good() };
@@ -151,6 +127,40 @@ fn out_of_turn(cases: &mut Cases) -> io::Result<()> {
         if !host.call(&mut session, call, &mut tricks)? {
             break;
         }
+    }
+    Ok(())
+}
+
+/// 31, and 33 at a start, also where 26 would come next.
+fn between_calls(host: &mut Host) -> io::Result<()> {
+    host.new_session(3)?;
+    host.ask_again()?;
+    host.refused_reply(1, &[1, 2, 3])?;
+    host.dirty()?;
+    host.lend(Lent { transfer: 18, ..ENOUGH })?;
+    host.refused_start(Call::Identify)?;
+    host.lend(Lent { reply: 63, data: 1, ..ENOUGH })?;
+    host.refused_start(Call::Write { at: 8_192, len: 1, seed: 1 })?;
+    host.lend(ENOUGH)
+}
+
+/// 32, and 33 with a reply; the transfer once more.
+fn inside_a_call(host: &mut Host, session: &mut Session) -> io::Result<()> {
+    host.first_turns(session, Call::Write { at: 60, len: 10, seed: 2 }, 1)?;
+    host.dirty()?;
+    host.ask_again()?;
+    host.put_transfer(&[0xEE; 24])?;
+    host.ask_again()?;
+    call::each().try_for_each(|call| host.refused_start(call))?;
+    for lent in [
+        Lent { transfer: 18, data: 10, ..ENOUGH },
+        Lent { reply: 63, data: 10, ..ENOUGH },
+        Lent { data: 9, ..ENOUGH },
+        Lent { data: 10, out: 1, ..ENOUGH },
+    ] {
+        host.lend(lent)?;
+        host.refused_reply(1, &[])?;
+        host.ask_again()?;
     }
     Ok(())
 }
