@@ -23,7 +23,7 @@ use Rattle.kept.specs.Bytes.{Bytes}
 use Rattle.kept.proofs.Decode.{bytes-are}
 use Rattle.kept.proofs.Chunks.{stop-inside, scrub-says}
 use Rattle.wiping.specs.Onward.{wipes, bare, moved, Onto, Move}
-use Rattle.wiping.specs.Sweep.{Whole, Passes, Reads, tagsOf, chunkBytes, swept, sweptLeft, Clean}
+use Rattle.wiping.specs.Sweep.{Whole, Passes, tagsOf, chunkBytes, swept, sweptLeft, Clean}
 use Rattle.wiping.specs.declared.after.Onward.the-variants as O
 use Rattle.wiping.specs.declared.sweep.Swept.{Swept}
 use Rattle.wiping.specs.declared.sweep.Swept.the-variants as S
@@ -64,6 +64,12 @@ by-either false b e f g = g e
 tags-are : (s p i w k e : ℕ) → s < 256 → p < 256 → i < 256 → w < 256 → k < 256 → e < 256 → s + 256 * p + 65536 * i + 16777216 * w ≡ k + 256 + 16777216 * e
     → (s ≡ k) × (p ≡ 1) × (i ≡ 0) × (w ≡ e)
 tags-are s p i w k e hs hp hi hw hk he h = (omega arith, omega arith, omega arith, omega arith)
+
+-- these are the numbers of a wipe that reads a chunk
+pub record Reads (f : Flat) : Type 0 where
+  pub wiper : wipes (f .stage) (f .code .which) ≡ true
+  pub phase : f .code .phase ≡ 1
+  pub bared : bare (f .code) (f .place) ≡ true
 
 -- the tags are bytes
 abbrev TagsFit : Flat → Type 0

@@ -3,7 +3,6 @@
 --
 --   Whole p               == the chunk p has all its 64 bytes before the end of the wipe
 --   Passes m rows p got x == where x is a chunk: it is whole, and a wipe that reads the chunk p goes on to read it, as `Onto` says
---   Reads f               == f are the numbers of a wipe that reads a chunk
 --   tagsOf f              == the four tags of the numbers f as one number
 --   chunkBytes p          == four bytes of the state: the chunks left after p, and where p is
 --   swept l p             == the state's bytes l, with those of p in them
@@ -24,7 +23,7 @@ use Rattle.wipe.specs.declared.scrub.Scrub.the-variants.{Read}
 use Rattle.telling.specs.Step.{transferStep, padded}
 use Rattle.telling.specs.Left.{Left, replyLeft}
 use Rattle.numbers.specs.declared.flat.Flat.{Flat}
-use Rattle.wiping.specs.Onward.{wipes, bare, Onto}
+use Rattle.wiping.specs.Onward.{Onto}
 use Rattle.wiping.specs.declared.sweep.Swept.{Swept}
 use Rattle.wiping.specs.declared.sweep.Swept.the-variants as S
 
@@ -34,11 +33,6 @@ Whole p = p .at + 64 ≤ p .end
 abbrev pub Passes : ℕ → ℕ → Chunk → List ℕ → Swept → Type 0
 Passes m rows p got (S.To q) = (q .end ≡ p .end) × Whole q × Onto m rows (Read p) got rows (Read q)
 Passes m rows p got S.Not = Unit
-
-pub record Reads (f : Flat) : Type 0 where
-  pub wiper : wipes (f .stage) (f .code .which) ≡ true
-  pub phase : f .code .phase ≡ 1
-  pub bared : bare (f .code) (f .place) ≡ true
 
 abbrev pub tagsOf : Flat → ℕ
 tagsOf f = f .stage + 256 * f .code .phase + 65536 * f .code .inner + 16777216 * f .code .which
