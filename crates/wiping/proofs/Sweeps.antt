@@ -1,6 +1,7 @@
 -- The read of a clean chunk leaves what the general way leaves.
 use mathlib.Core.Path.{_≡_, refl, sym, ap, subst, _∙_}
-use mathlib.Core.Bool.{Bool, true, false, not, _&&_, _||_}
+use mathlib.Core.Bool.{Bool, true, not, _&&_, _||_}
+use mathlib.Core.Logic.{⊎-elim}
 use mathlib.Core.List.{List}
 use Prim.Native.Nat.{ℕ, _+_, _-_, _*_, _/_, _%_, _≤_, _<_}
 use native.Mathlib.Omega.{arith}
@@ -8,7 +9,7 @@ use lib.Dec.{eqb, ltb, leb}
 use lib.ListN.{length, take}
 use borrow.Author.Tests.{eqb-true, leb-true, eq-eqb}
 use Rattle.slices.specs.Bytes.{splice}
-use Rattle.slices.proofs.Truths.{both, both-so}
+use Rattle.slices.proofs.Truths.{both, both-so, either}
 use Rattle.scan.specs.Zeros.{blank}
 use Rattle.protocol.specs.Tag.{user}
 use Rattle.machine.specs.declared.ask.Ask.the-variants as A
@@ -56,10 +57,6 @@ four-move f p k b z e =
       lent = sym z i;
     })
 
-by-either : {X : Type 0} (a b : Bool) → (a || b) ≡ true → (a ≡ true → X) → (b ≡ true → X) → X
-by-either true b e f g = f refl
-by-either false b e f g = g e
-
 -- the four tags, from the number that they make
 tags-are : (s p i w k e : ℕ) → s < 256 → p < 256 → i < 256 → w < 256 → k < 256 → e < 256 → s + 256 * p + 65536 * i + 16777216 * w ≡ k + 256 + 16777216 * e
     → (s ≡ k) × (p ≡ 1) × (i ≡ 0) × (w ≡ e)
@@ -92,10 +89,10 @@ module _ (f : Flat) (fit : TagsFit f) (a : f .code .count ≡ 0) (b : f .place .
   -- 12, 18, and 18 with RF stuck
   reads-by : (n : ℕ) → n ≡ tagsOf f → (eqb n 268 || eqb n 274 || eqb n 16777490) ≡ true → Reads f
   reads-by n en e =
-      by-either (eqb n 268 || eqb n 274) (eqb n 16777490) e
-      (λ x. by-either (eqb n 268) (eqb n 274) x (λ y. reads-as 12 0 (omega arith) (omega arith) refl (sym en ∙ eqb-true n 268 y))
-      (λ y. reads-as 18 0 (omega arith) (omega arith) refl (sym en ∙ eqb-true n 274 y)))
-      (λ y. reads-as 18 1 (omega arith) (omega arith) refl (sym en ∙ eqb-true n 16777490 y))
+      let alone : eqb n 268 ≡ true → Reads f = λ y. reads-as 12 0 (omega arith) (omega arith) refl (sym en ∙ eqb-true n 268 y) in
+      let off : eqb n 274 ≡ true → Reads f = λ y. reads-as 18 0 (omega arith) (omega arith) refl (sym en ∙ eqb-true n 274 y) in
+      let stuck : eqb n 16777490 ≡ true → Reads f = λ y. reads-as 18 1 (omega arith) (omega arith) refl (sym en ∙ eqb-true n 16777490 y) in
+      ⊎-elim (λ x. ⊎-elim alone off (either (eqb n 268) (eqb n 274) x)) stuck (either (eqb n 268 || eqb n 274) (eqb n 16777490) e)
 
 -- what the code of `clean_of` tests, n being the tags
 abbrev tested : ℕ → Flat → Bool
