@@ -15,7 +15,7 @@ use restoring::rows_from;
 use wiping::after::Onward;
 
 // Neither a wait nor rows to come.
-pub fn bare(c: Code, p: Place) -> bool
+fn bare(c: Code, p: Place) -> bool
     ensures { λ r. ⌜ r ≡ bare c p ⌝ }
 {
     (c.inner == 0) & (c.count == 0) & (p.bits == 0) & (p.row == 0)
