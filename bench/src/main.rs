@@ -53,14 +53,14 @@ fn both(mut rust: impl FnMut(), mut port: impl FnMut()) -> Vec<[f64; 2]> {
     rounds([&mut |n| (0..n).for_each(|_| rust()), &mut |n| (0..n).for_each(|_| port())])
 }
 
-/// Both sides' times, of three jobs.
-fn whole(times: &[[f64; 3]]) -> Vec<[f64; 2]> {
-    times.iter().map(|[rust, port, _]| [*rust, *port]).collect()
+/// Both sides' times, of three jobs or more.
+fn whole<const N: usize>(times: &[[f64; N]]) -> Vec<[f64; 2]> {
+    times.iter().map(|t| [t[0], t[1]]).collect()
 }
 
 /// Both sides' times over `n`, the third job's taken off.
-fn share(times: &[[f64; 3]], n: f64) -> Vec<[f64; 2]> {
-    times.iter().map(|[rust, port, bare]| [(rust - bare) / n, (port - bare) / n]).collect()
+fn share<const N: usize>(times: &[[f64; N]], n: f64) -> Vec<[f64; 2]> {
+    times.iter().map(|t| [(t[0] - t[2]) / n, (t[1] - t[2]) / n]).collect()
 }
 
 fn median(values: impl Iterator<Item = f64>) -> f64 {
@@ -275,19 +275,26 @@ fn a_session() {
     line("one step of it, the part's share taken off", "1.5", &share(&times, steps));
 }
 
-/// The wipe's scan of a clean tile, and the part's share as for a session.
+/// The wipe's scan of a clean tile: with the part's share, as for a session; without it; and without the host's either, which is the
+/// same host and part with nobody to look at the bytes. The original is called once and has its host inside.
 fn a_scan() {
     let (mut clean, mut bare, mut c) = (Some(part::Part::new()), part::Part::new(), vec![0; 8192]);
-    let mut host = session::Host::new(part::Part::new());
+    let (mut host, mut blind) =
+        (session::Host::new(part::Part::new()), session::Host::new(part::Part::new()));
     let reads: Vec<_> = (0..128u16).map(|i| (0x53, (i * 64).to_be_bytes().to_vec(), 64)).collect();
     let times = rounds([
         &mut |n| (0..n).for_each(|_| clean = Some(session::scan_original(clean.take().unwrap()))),
         &mut |n| (0..n).for_each(|_| session::scan_port(&mut host)),
         &mut |n| (0..n).for_each(|_| session::bare(&mut bare, &reads, &mut c)),
+        &mut |n| (0..n).for_each(|_| session::scan_host(&mut blind)),
     ]);
+    assert_eq!(host.part.transfers % 128 + blind.part.transfers % 128, 0);
     let name = "the wipe's scan of a clean tile, 128 reads, with the part's share";
     line(name, "far below 1", &whole(&times));
     line("one read of it, the part's share taken off", "far below 1", &share(&times, 128.0));
+    let own: Vec<_> =
+        times.iter().map(|[rust, port, part, host]| [rust - part, port - host].map(|t| t / 128.0)).collect();
+    line("the library's own share of that read, the host's taken off too", "far below 1", &own);
 }
 
 fn main() {

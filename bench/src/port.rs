@@ -26,6 +26,10 @@ type Len = u64;
 /// A start that takes neither data nor `out`.
 pub type Start = unsafe extern "C" fn(Out, Len, Out, Len, Out, Len) -> u64;
 
+/// What a host tells of a step.
+pub type Reply =
+    unsafe extern "C" fn(Out, Len, Out, Len, Out, Len, In, Len, In, Len, u32) -> u64;
+
 #[rustfmt::skip]
 #[link(name = "skipnadur", kind = "static")]
 extern "C" {

@@ -1,7 +1,8 @@
 //! The same session three times: by the original, by the port, and the bare transfers, which are the part's own share.
 use crate::part::Part;
-use crate::port::{self, Start};
+use crate::port::{self, Reply, Start};
 use catcard_nfc::tag::{Bus, Tag, USER_MEMORY};
+use core::hint::black_box;
 use core::ptr::null;
 
 /// What a session starts from: bytes of an earlier visitor, the label, what the phone writes back.
@@ -72,7 +73,12 @@ impl Host {
     }
 
     /// Takes an open call to its answer.
-    pub fn carry_out(&mut self, mut step: u64, data: &[u8], out: &mut [u8]) {
+    pub fn carry_out(&mut self, step: u64, data: &[u8], out: &mut [u8]) {
+        self.carry_out_with(port::skp_tag_reply, step, data, out);
+    }
+
+    #[inline(always)]
+    fn carry_out_with(&mut self, reply: Reply, mut step: u64, data: &[u8], out: &mut [u8]) {
         while step & 0xFF != 0 {
             let (dev, send, read) =
                 ((step >> 8) as u8, (step >> 16) as u16 as usize, (step >> 32) as u16 as usize);
@@ -85,7 +91,7 @@ impl Host {
             };
             let (lent, room) = (data.as_ptr(), if out.is_empty() { null() } else { out.as_ptr() });
             step = unsafe {
-                port::skp_tag_reply(
+                reply(
                     self.state.as_mut_ptr(),
                     20,
                     self.transfer.as_mut_ptr(),
@@ -137,6 +143,24 @@ pub fn scan_original(part: Part) -> Part {
 pub fn scan_port(host: &mut Host) {
     host.restart();
     host.call(port::skp_tag_scrub);
+}
+
+/// What a host does for a scan, whoever tells it how to go on.
+pub fn scan_host(host: &mut Host) {
+    host.restart();
+    let step = host.start(port::skp_tag_scrub);
+    host.carry_out_with(black_box(next_chunk), step, &[], &mut []);
+}
+
+/// Stands in for `skp_tag_reply`, and decides nothing: the next chunk is read, whatever was in this one.
+#[rustfmt::skip]
+unsafe extern "C" fn next_chunk(
+    _: *mut u8, _: u64, transfer: *mut u8, _: u64, _: *mut u8, _: u64, _: *const u8, _: u64, _: *const u8, _: u64, _: u32,
+) -> u64 {
+    let place = transfer.cast::<[u8; 2]>();
+    let next = u16::from_be_bytes(place.read()) + 64;
+    place.write(next.to_be_bytes());
+    if usize::from(next) < USER_MEMORY { 2 | 0x53 << 8 | 2 << 16 | 64 << 32 } else { 0 }
 }
 
 /// The transfers of a session once more, with nobody to decide on them.

@@ -3,7 +3,7 @@
 ghost use mathlib.Core.Path.{_≡_};
 ghost use mathlib.Core.Bool.{false};
 ghost use mathlib.Core.List.{[], _++_};
-ghost use Prim.Native.Nat.{_≤_};
+ghost use Prim.Native.Nat.{_≤_, _<_};
 ghost use lib.ListN.{length, drop};
 ghost use Rattle.protocol.specs.Transfer.{sent};
 ghost use Rattle.machine.specs.Ask.{meant};
@@ -11,7 +11,7 @@ ghost use Rattle.wipe.specs.Scrub.{scrubAsk};
 ghost use Rattle.wipe.specs.declared.scrub.Scrub.the-variants.{Read};
 ghost use Rattle.state.specs.Bytes.{flatOf};
 ghost use Rattle.telling.specs.Step.{transferStep, padded};
-ghost use Rattle.wiping.specs.Sweep.{Whole, Passes, tagsOf, swept, Clean};
+ghost use Rattle.wiping.specs.Sweep.{Passes, tagsOf, swept, Follows, Clean};
 use framing::frame;
 use framing::write_frame;
 use machine::ask::Ask;
@@ -25,14 +25,15 @@ use telling::step::ask_step;
 use wipe::scrub::Chunk;
 use wiping::sweep::Swept;
 
-// A chunk that is blank and has a whole one after it. 64 is a length that the compiler knows, so that the chunk is tested at once.
+// A chunk that is blank and has a whole one after it. That it has is tested first, so that the compiler leaves out the test of the chunk's
+// own end. 64 is a length that the compiler knows, so that the chunk is tested at once.
 fn passed(m: usize, rows: usize, p: Chunk, reply: &[u8]) -> Swept
-    requires { ⌜ (m ≤ 8192) × (64 ≤ length (now reply)) ⌝ }
+    requires { ⌜ (m ≤ 8192) × (64 ≤ length (now reply)) × (p .at < 65536) ⌝ }
     ensures { λ r. ⌜ Passes m rows p (now (reply .entry)) r ⌝ }
 {
-    if (0 < chunk_stop(m, p)) & (rows <= p.at / 16) {
-        let next = p.at + 64;
-        if next + 64 <= p.end {
+    let next = p.at + 64;
+    if next + 64 <= p.end {
+        if (0 < chunk_stop(m, p)) & (rows <= p.at / 16) {
             if all_zero(reply, 0, 64) {
                 return Swept::To(Chunk {
                     left: p.left - 1,
@@ -56,8 +57,7 @@ fn tags(state: &[u8]) -> usize
 }
 
 // The chunk after the one that a wipe has read, where that is clean. The tags of such a wipe are 12, or 18 with RF off or stuck; 1 for the
-// read; and 0. It has at most 128 chunks left, so that their number is read as the one byte that the step before stored: a load of two
-// might wait for two stores. Rows and data are tested as one number.
+// read; and 0. Rows and data are tested as one number.
 pub fn clean_of(state: &[u8], reply: &[u8]) -> Swept
     requires { ⌜ (length (now state) ≡ 20) × (64 ≤ length (now reply)) ⌝ }
     ensures { λ r. ⌜ Clean (now (state .entry)) (now (reply .entry)) r ⌝ }
@@ -70,11 +70,10 @@ pub fn clean_of(state: &[u8], reply: &[u8]) -> Swept
         & (c.count == 0)
         & (p.bits == 0)
         & (p.row == 0)
-        & (p.left / 256 == 0)
         & (f.mark <= Session::USER_MEMORY)
     {
         let read = Chunk {
-            left: p.left % 256,
+            left: p.left,
             at: p.at,
             end: p.end,
         };
@@ -83,18 +82,21 @@ pub fn clean_of(state: &[u8], reply: &[u8]) -> Swept
     Swept::Not
 }
 
-// The next state and transfer, and the step: the chunk p is read, which is whole, so that the step is the same for all.
+// The next state and transfer, and the step: the chunk p is read, which is whole, so that the step is the same for all. One chunk fewer is left
+// and it begins 64 bytes on: that is one sum, 65536 * 64 - 1, over both numbers as one, so that the compiler stores its four bytes at once.
 pub fn sweep(state: &mut [u8], transfer: &mut [u8], p: Chunk) -> u64
-    requires { ⌜ (length (now state) ≡ 20) × (19 ≤ length (now transfer)) × Whole p ⌝ }
+    requires { ⌜ (length (now state) ≡ 20) × (19 ≤ length (now transfer)) × Follows (now state) p ⌝ }
     ensures { λ r. ⌜ r ≡ transferStep false (meant [] (scrubAsk (Read p))) ⌝ }
     ensures { λ _. ⌜ now (state .exit) ≡ swept (now (state .entry)) p ⌝ }
     ensures { λ _. ⌜ now (transfer .exit) ≡ padded (sent (meant [] (scrubAsk (Read p)))) ++ drop 19 (now (transfer .entry)) ⌝ }
 {
+    let old = flat_of(state).place;
+    let n = old.left + 65536 * old.at + 4194303;
     let changed = [
-        (p.left % 256) as u8,
-        (p.left / 256 % 256) as u8,
-        (p.at % 256) as u8,
-        (p.at / 256 % 256) as u8,
+        (n % 256) as u8,
+        (n / 256 % 256) as u8,
+        (n / 65536 % 256) as u8,
+        (n / 16777216 % 256) as u8,
     ];
     copy_to(state, 12, &changed);
     let a = Ask::Read(0x53, p.at, 64);

@@ -2,7 +2,7 @@
 use mathlib.Core.Path.{_≡_, refl, sym, ap, subst, _∙_}
 use mathlib.Core.Bool.{Bool, true, not, _&&_, _||_}
 use mathlib.Core.Logic.{⊎-elim}
-use mathlib.Core.List.{List}
+use mathlib.Core.List.{List, [], _∷_}
 use Prim.Native.Nat.{ℕ, _+_, _-_, _*_, _/_, _%_, _≤_, _<_}
 use native.Mathlib.Omega.{arith}
 use lib.Dec.{eqb, ltb, leb}
@@ -24,7 +24,7 @@ use Rattle.kept.specs.Bytes.{Bytes}
 use Rattle.kept.proofs.Decode.{bytes-are}
 use Rattle.kept.proofs.Chunks.{stop-inside, scrub-says}
 use Rattle.wiping.specs.Onward.{wipes, bare, moved, Onto, Move}
-use Rattle.wiping.specs.Sweep.{Whole, Passes, tagsOf, chunkBytes, swept, sweptLeft, Clean}
+use Rattle.wiping.specs.Sweep.{Whole, Passes, tagsOf, chunkBytes, swept, sweptLeft, Follows, Clean}
 use Rattle.wiping.specs.declared.after.Onward.the-variants as O
 use Rattle.wiping.specs.declared.sweep.Swept.{Swept}
 use Rattle.wiping.specs.declared.sweep.Swept.the-variants as S
@@ -39,7 +39,8 @@ pub passes : (m rows stop : ℕ) (p : Chunk) (got : List ℕ) (b : Bool) → sto
 passes m rows stop p got b es h1 j eb hb =
     let s = read-sane m rows stop p es h1 in
     let i : p .at + 64 ≤ p .end = omega arith in
-    (refl, j, leads-led m rows (Read p) got _ _ s refl refl (clean-led rows p got b (not-last m rows p s j) i eb hb))
+    let k = not-last m rows p s j in
+    ((omega (arith, k), refl, refl), j, leads-led m rows (Read p) got _ _ s refl refl (clean-led rows p got b k i eb hb))
 
 -- only the four bytes of the chunk change
 four-move : (f : Flat) (p : Chunk) → f .code .phase ≡ 1 → bare (f .code) (f .place) ≡ true → f .lent ≡ 0 → p .end ≡ f .place .end
@@ -98,24 +99,30 @@ module _ (f : Flat) (fit : TagsFit f) (a : f .code .count ≡ 0) (b : f .place .
 abbrev tested : ℕ → Flat → Bool
 tested n f =
     (eqb n 268 || eqb n 274 || eqb n 16777490) && eqb (f .code .count) 0 && eqb (f .place .bits) 0 && eqb (f .place .row) 0
-    && eqb (f .place .left / 256) 0 && leb (f .mark) 8192
+    && leb (f .mark) 8192
 
-pub sweep-says : (f : Flat) (n : ℕ) → TagsFit f → n ≡ tagsOf f → tested n f ≡ true → Reads f × (f .place .left / 256 ≡ 0) × (f .mark ≤ 8192)
+pub sweep-says : (f : Flat) (n : ℕ) → TagsFit f → n ≡ tagsOf f → tested n f ≡ true → Reads f × (f .mark ≤ 8192)
 sweep-says f n fit en e =
-    let h5 = both _ (leb (f .mark) 8192) e in
-    let h4 = both _ (eqb (f .place .left / 256) 0) (h5 .0) in
+    let h4 = both _ (leb (f .mark) 8192) e in
     let h3 = both _ (eqb (f .place .row) 0) (h4 .0) in
     let h2 = both _ (eqb (f .place .bits) 0) (h3 .0) in
     let h1 = both _ (eqb (f .code .count) 0) (h2 .0) in
     let r = reads-by f fit (eqb-true (f .code .count) 0 (h1 .1)) (eqb-true (f .place .bits) 0 (h2 .1)) (eqb-true (f .place .row) 0 (h3 .1)) n en (h1 .0) in
-    (r, eqb-true (f .place .left / 256) 0 (h4 .1), leb-true (f .mark) 8192 (h5 .1))
+    (r, leb-true (f .mark) 8192 (h4 .1))
 
--- two bytes
-pub two-fits : (l : List ℕ) (i : ℕ) → Bytes l → twoAt l i < 65536
+two-fits : (l : List ℕ) (i : ℕ) → Bytes l → twoAt l i < 65536
 two-fits l i bytes =
     let h = bytes i in
     let g = bytes (i + 1) in
     omega (arith, h, g)
+
+-- these numbers are of two bytes
+abbrev NumbersFit : Flat → Type 0
+NumbersFit f = (f .rows < 65536) × (f .lent < 65536) × (f .place .left < 65536) × (f .place .at < 65536)
+
+pub numbers-fit : (l : List ℕ) (f : Flat) → Bytes l → f ≡ flatOf l → NumbersFit f
+numbers-fit l f bytes ef =
+    subst NumbersFit (sym ef) (two-fits l 8 bytes, two-fits l 10 bytes, two-fits l 12 bytes, two-fits l 14 bytes)
 
 -- rows that lie before a chunk are fewer than 65,536, so that no data is lent
 none-lent : (m rows lent : ℕ) (p : Chunk) → scrubSound m (rows + 65536 * lent) (Read p) ≡ true → lent ≡ 0
@@ -126,28 +133,21 @@ none-lent m rows lent p s =
     omega (arith, i, j)
 
 module _ (l r : List ℕ) (f : Flat) (p : Chunk) (n : ℕ) (long : length l ≡ 20) (bytes : Bytes l) (hr : 64 ≤ length r) (ef : f ≡ flatOf l)
-    (en : n ≡ tagsOf f) (e : tested n f ≡ true)
-    (ep : p ≡ record { left = f .place .left % 256; at = f .place .at; end = f .place .end }) where
-  -- the high byte of `left` is zero
-  low-byte : p ≡ chunkFrom (f .place)
-  low-byte =
-      let h = sweep-says f n (tags-fit l f bytes ef) en e .1 in
-      let k : f .place .left % 256 ≡ f .place .left = omega (arith, h) in
-      ep ∙ (λ i. record { left = k i; at = f .place .at; end = f .place .end })
-
+    (en : n ≡ tagsOf f) (e : tested n f ≡ true) (ep : p ≡ chunkFrom (f .place)) where
   clean-to : (q : Chunk) → Passes (f .mark) (f .rows + 65536 * f .lent) p r (S.To q) → Clean l r (S.To q)
   clean-to q v = (
-    v .1,
+    subst (λ (x : Chunk). (x .left ≡ q .left + 1) × (x .at + 64 ≡ q .at) × Whole q) (ep ∙ ap (λ (x : Flat). chunkFrom (x .place)) ef)
+        (v .0 .0, v .0 .1, v .1),
     λ t lent out ack ht hl ho ha.
         let h = sweep-says f n (tags-fit l f bytes ef) en e in
         let z = none-lent (f .mark) (f .rows) (f .lent) p (v .2 .sane) in
         let k : f .rows + 65536 * f .lent ≡ f .rows = omega (arith, z) in
         let o = subst (λ (x : ℕ). Onto (f .mark) x (Read p) r x (Read q)) k (v .2) in
         let four : bytesOf (moved f (f .rows) (Read q)) ≡ swept l q =
-        four-move f q (h .0 .phase) (h .0 .bared) z (v .0 ∙ ap (λ (x : Chunk). x .end) ep)
+        four-move f q (h .0 .phase) (h .0 .bared) z (v .0 .2 ∙ ap (λ (x : Chunk). x .end) ep)
         ∙ ap (λ (x : List ℕ). splice x 12 (chunkBytes q)) (ap bytesOf ef ∙ bytes-are l long bytes) in
-        let move : Move f r (f .rows) (Read q) = read-moves f p r true (O.To (f .rows) (Read q)) (sym (h .0 .bared)) refl (h .0 .phase) low-byte o in
-        short-is l t r lent out ack long ht hr hl ho ha f ef (f .rows) (Read q) (h .0 .wiper) z (h .2) move
+        let move : Move f r (f .rows) (Read q) = read-moves f p r true (O.To (f .rows) (Read q)) (sym (h .0 .bared)) refl (h .0 .phase) ep o in
+        short-is l t r lent out ack long ht hr hl ho ha f ef (f .rows) (Read q) (h .0 .wiper) z (h .1) move
         ∙ (λ i. record { step = sweptLeft l q t r .step; state = four i; transfer = sweptLeft l q t r .transfer; reply = r }),
   )
 
@@ -155,6 +155,21 @@ module _ (l r : List ℕ) (f : Flat) (p : Chunk) (n : ℕ) (long : length l ≡ 
   pub clean-is : (x : Swept) → Passes (f .mark) (f .rows + 65536 * f .lent) p r x → Clean l r x
   clean-is (S.To q) v = clean-to q v
   clean-is S.Not v = tt
+
+-- two numbers as one, n, which has the bytes of both
+four-bytes : (l a n : ℕ) → l < 65536 → n ≡ l + 65536 * a
+    → (n % 256 ≡ l % 256) × (n / 256 % 256 ≡ l / 256 % 256) × (n / 65536 % 256 ≡ a % 256) × (n / 16777216 % 256 ≡ a / 256 % 256)
+four-bytes l a n h e = (omega (arith, e), omega (arith, e), omega (arith, h, e), omega (arith, h, e))
+
+-- what the code of `sweep` writes into the state
+pub swept-by : (l : List ℕ) (p : Chunk) (f : Flat) (n : ℕ) → Bytes l → f ≡ flatOf l → Follows l p → n ≡ f .place .left + 65536 * f .place .at + 4194303
+    → splice l 12 (n % 256 ∷ n / 256 % 256 ∷ n / 65536 % 256 ∷ n / 16777216 % 256 ∷ []) ≡ swept l p
+swept-by l p f n bytes ef h e =
+    let fit = numbers-fit l f bytes ef .2 in
+    let left : f .place .left ≡ p .left + 1 = ap (λ (x : Flat). x .place .left) ef ∙ h .0 in
+    let at : f .place .at + 64 ≡ p .at = ap (λ (x : Flat). x .place .at + 64) ef ∙ h .1 in
+    let k = four-bytes (p .left) (p .at) n (omega (arith, fit, left)) (omega (arith, e, left, at)) in
+    ap (splice l 12) (λ i. k .0 i ∷ k .1 i ∷ k .2 i ∷ k .3 i ∷ [])
 
 -- the transfer that reads a whole chunk
 pub whole-asks : (p : Chunk) → Whole p → A.Read user (p .at) 64 ≡ scrubAsk (Read p)

@@ -2,12 +2,14 @@
 -- docs/DECISIONS.md, 50. `Clean` says that it leaves what a reply leaves (telling/specs/Left).
 --
 --   Whole p               == the chunk p has all its 64 bytes before the end of the wipe
---   Passes m rows p got x == where x is a chunk: it is whole, and a wipe that reads the chunk p goes on to read it, as `Onto` says
+--   After p q             == the chunk q is the one after p in its wipe: 64 bytes on, and one fewer comes after it
+--   Passes m rows p got x == where x is a chunk: it comes after p, is whole, and a wipe that reads p goes on to read it, as `Onto` says
 --   tagsOf f              == the four tags of the numbers f as one number
 --   chunkBytes p          == four bytes of the state: the chunks left after p, and where p is
 --   swept l p             == the state's bytes l, with those of p in them
 --   sweptLeft l p t r     == what a step leaves that goes on to read the chunk p
---   Clean l r x           == where x is a chunk: it is whole, and an acknowledge that lends no data and no `out` leaves that
+--   Follows l p           == the chunk p is whole, and the one after that which the state's bytes l are at
+--   Clean l r x           == where x is a chunk: it follows, and an acknowledge that lends no data and no `out` leaves that
 use mathlib.Core.Path.{_≡_}
 use mathlib.Core.Bool.{true, false, not}
 use mathlib.Core.List.{List, [], _∷_, _++_}
@@ -23,6 +25,7 @@ use Rattle.wipe.specs.declared.scrub.Scrub.the-variants.{Read}
 use Rattle.telling.specs.Step.{transferStep, padded}
 use Rattle.telling.specs.Left.{Left, replyLeft}
 use Rattle.numbers.specs.declared.flat.Flat.{Flat}
+use Rattle.state.specs.Bytes.{twoAt}
 use Rattle.wiping.specs.Onward.{Onto}
 use Rattle.wiping.specs.declared.sweep.Swept.{Swept}
 use Rattle.wiping.specs.declared.sweep.Swept.the-variants as S
@@ -30,8 +33,11 @@ use Rattle.wiping.specs.declared.sweep.Swept.the-variants as S
 abbrev pub Whole : Chunk → Type 0
 Whole p = p .at + 64 ≤ p .end
 
+abbrev pub After : Chunk → Chunk → Type 0
+After p q = (p .left ≡ q .left + 1) × (p .at + 64 ≡ q .at) × (q .end ≡ p .end)
+
 abbrev pub Passes : ℕ → ℕ → Chunk → List ℕ → Swept → Type 0
-Passes m rows p got (S.To q) = (q .end ≡ p .end) × Whole q × Onto m rows (Read p) got rows (Read q)
+Passes m rows p got (S.To q) = (After p q) × Whole q × Onto m rows (Read p) got rows (Read q)
 Passes m rows p got S.Not = Unit
 
 abbrev pub tagsOf : Flat → ℕ
@@ -51,9 +57,12 @@ sweptLeft l p t r = record {
   reply = r;
 }
 
+abbrev pub Follows : List ℕ → Chunk → Type 0
+Follows l p = (twoAt l 12 ≡ p .left + 1) × (twoAt l 14 + 64 ≡ p .at) × Whole p
+
 abbrev pub Clean : List ℕ → List ℕ → Swept → Type 0
 Clean l r (S.To p) =
-    Whole p
+    (Follows l p)
     × ((t lent out : List ℕ) (ack : ℕ) → 19 ≤ length t → length lent ≡ 0 → length out ≡ 0 → not (eqb ack 0) ≡ true
     → replyLeft l t r lent out ack ≡ sweptLeft l p t r)
 Clean l r S.Not = Unit

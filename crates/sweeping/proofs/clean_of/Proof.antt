@@ -3,22 +3,21 @@ use Rattle.sweeping.proofs.clean_of.Statement.{statement}
 use Rattle.sweeping.proofs.clean_of.Tie as tie
 use mathlib.Core.Path.{refl, sym, ap, _∙_}
 use denote.Ref.{now}
-use Rattle.numbers.specs.declared.flat.Flat.{Flat}
 use Rattle.wiping.specs.Sweep.{tagsOf}
-use Rattle.wiping.proofs.Sweeps.{tags-fit, sweep-says, two-fits, clean-is}
+use Rattle.wiping.proofs.Sweeps.{tags-fit, sweep-says, numbers-fit, clean-is}
 use native.Mathlib.Omega.{arith}
 
 mul-passed : tie.Need-mul-passed
-mul-passed c = let h = two-fits (now (c .before .before .before .before .before .before .before .before .before .before .before .before .before .before .args .state)) 10 (λ i. c .before .before .before .before .before .before .before .before .before .before .before .before .before .shared-slice-known .given i .fits) in let e = ap (λ (f : Flat). f .lent) (c .before .before .before .before .before .before .before .before .before .before .flat-of .ensures) in omega (arith, h, e)
+mul-passed c = let h = numbers-fit (now (c .before .before .before .before .before .before .before .before .before .before .before .before .args .state)) (c .before .before .before .before .before .before .before .before .flat-of .result) (λ i. c .before .before .before .before .before .before .before .before .before .before .before .shared-slice-known .given i .fits) (c .before .before .before .before .before .before .before .before .flat-of .ensures) .1 in omega (arith, h)
 
 add-passed : tie.Need-add-passed
-add-passed c = let s = c .before .before .before .before .before .before .before .before .before .before .before .before .before .before .before .args in let h = two-fits (now (s .state)) 10 (λ i. c .before .before .before .before .before .before .before .before .before .before .before .before .before .before .shared-slice-known .given i .fits) in let g = two-fits (now (s .state)) 8 (λ i. c .before .before .before .before .before .before .before .before .before .before .before .before .before .before .shared-slice-known .given i .fits) in let e = ap (λ (f : Flat). f .lent) (c .before .before .before .before .before .before .before .before .before .before .before .flat-of .ensures) in let d = ap (λ (f : Flat). f .rows) (c .before .before .before .before .before .before .before .before .before .before .before .flat-of .ensures) in omega (arith, h, g, e, d)
+add-passed c = let h = numbers-fit (now (c .before .before .before .before .before .before .before .before .before .before .before .before .before .args .state)) (c .before .before .before .before .before .before .before .before .before .flat-of .result) (λ i. c .before .before .before .before .before .before .before .before .before .before .before .before .shared-slice-known .given i .fits) (c .before .before .before .before .before .before .before .before .before .flat-of .ensures) in let rows = h .0 in let lent = h .1 in omega (arith, rows, lent)
 
 passed-requires : tie.Need-passed-requires
-passed-requires c κs = let s = c .before .before .before .before .before .before .before .before .before .before .before .before .before .before .before in let f = c .before .before .before .before .before .before .before .before .before .before .before .flat-of in let t = c .before .before .before .before .before .before .before .before .before .before .before .before .tags in (sweep-says (f .result) (t .result) (tags-fit (now (s .args .state)) (f .result) (λ i. c .before .before .before .before .before .before .before .before .before .before .before .before .before .before .shared-slice-known .given i .fits) (f .ensures)) (t .ensures ∙ ap tagsOf (sym (f .ensures))) (c .before .before .before .if1 .taken) .2, s .pre .1)
+passed-requires c κs = let s = c .before .before .before .before .before .before .before .before .before .before .before .before .before in let f = c .before .before .before .before .before .before .before .before .before .flat-of in let t = c .before .before .before .before .before .before .before .before .before .before .tags in let h = sweep-says (f .result) (t .result) (tags-fit (now (s .args .state)) (f .result) (λ i. c .before .before .before .before .before .before .before .before .before .before .before .before .shared-slice-known .given i .fits) (f .ensures)) (t .ensures ∙ ap tagsOf (sym (f .ensures))) (c .before .before .if1 .taken) in (h .1, s .pre .1, numbers-fit (now (c .before .before .before .before .before .before .before .before .before .before .before .before .before .args .state)) (c .before .before .before .before .before .before .before .before .before .flat-of .result) (λ i. c .before .before .before .before .before .before .before .before .before .before .before .before .shared-slice-known .given i .fits) (c .before .before .before .before .before .before .before .before .before .flat-of .ensures) .3)
 
 returns : tie.Need-returns
-returns c = let s = c .before .before .before .before .before .before .before .before .before .before .before .before .before .before .before .before in let f = c .before .before .before .before .before .before .before .before .before .before .before .before .flat-of in let t = c .before .before .before .before .before .before .before .before .before .before .before .before .before .tags in clean-is (now (s .args .state)) (now (s .args .reply)) (f .result) _ (t .result) (s .pre .0) (λ i. c .before .before .before .before .before .before .before .before .before .before .before .before .before .before .before .shared-slice-known .given i .fits) (s .pre .1) (f .ensures) (t .ensures ∙ ap tagsOf (sym (f .ensures))) (c .before .before .before .before .if1 .taken) refl (c .passed .result) (c .passed .ensures)
+returns c = let s = c .before .before .before .before .before .before .before .before .before .before .before .before .before .before in let f = c .before .before .before .before .before .before .before .before .before .before .flat-of in let t = c .before .before .before .before .before .before .before .before .before .before .before .tags in clean-is (now (s .args .state)) (now (s .args .reply)) (f .result) _ (t .result) (s .pre .0) (λ i. c .before .before .before .before .before .before .before .before .before .before .before .before .before .shared-slice-known .given i .fits) (s .pre .1) (f .ensures) (t .ensures ∙ ap tagsOf (sym (f .ensures))) (c .before .before .before .if1 .taken) refl (c .passed .result) (c .passed .ensures)
 
 returns-2 : tie.Need-returns-2
 returns-2 c = tt
