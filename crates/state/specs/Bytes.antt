@@ -35,9 +35,9 @@ stateLength = 20
 abbrev pub bytesOf : Flat → List ℕ
 bytesOf f =
     f .stage ∷ f .code .phase ∷ f .code .inner ∷ f .code .which ∷ f .code .count ∷ f .place .bits
-    ∷ f .mark % 256 ∷ f .mark / 256 % 256 ∷ f .rows % 256 ∷ f .rows / 256 % 256 ∷ f .lent % 256 ∷ f .lent / 256 % 256
+    ∷ f .place .row % 256 ∷ f .place .row / 256 % 256 ∷ f .mark % 256 ∷ f .mark / 256 % 256 ∷ f .place .end % 256 ∷ f .place .end / 256 % 256
     ∷ f .place .left % 256 ∷ f .place .left / 256 % 256 ∷ f .place .at % 256 ∷ f .place .at / 256 % 256
-    ∷ f .place .end % 256 ∷ f .place .end / 256 % 256 ∷ f .place .row % 256 ∷ f .place .row / 256 % 256 ∷ []
+    ∷ f .rows % 256 ∷ f .rows / 256 % 256 ∷ f .lent % 256 ∷ f .lent / 256 % 256 ∷ []
 
 abbrev pub twoAt : List ℕ → ℕ → ℕ
 twoAt l i = getD l i 0 + 256 * getD l (i + 1) 0
@@ -46,11 +46,11 @@ abbrev pub codeIn : List ℕ → Code
 codeIn l = record { phase = getD l 1 0; inner = getD l 2 0; which = getD l 3 0; count = getD l 4 0 }
 
 abbrev pub placeIn : List ℕ → Place
-placeIn l = record { bits = getD l 5 0; left = twoAt l 12; at = twoAt l 14; end = twoAt l 16; row = twoAt l 18 }
+placeIn l = record { bits = getD l 5 0; left = twoAt l 12; at = twoAt l 14; end = twoAt l 10; row = twoAt l 6 }
 
 abbrev pub flatOf : List ℕ → Flat
 flatOf l =
-    record { stage = getD l 0 0; code = codeIn l; place = placeIn l; mark = twoAt l 6; rows = twoAt l 8; lent = twoAt l 10 }
+    record { stage = getD l 0 0; code = codeIn l; place = placeIn l; mark = twoAt l 8; rows = twoAt l 16; lent = twoAt l 18 }
 
 abbrev pub encode : Session → List ℕ
 encode s = bytesOf (flatten s)

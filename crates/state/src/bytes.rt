@@ -1,4 +1,5 @@
-// The twenty bytes: six tags, then seven numbers, low byte first.
+// The twenty bytes: six tags, then seven numbers, low byte first. What is 0 while a wipe reads stands at the front, beside the tags, and what
+// the read of a clean chunk changes stands side by side, so that each is one load (docs/DECISIONS.md, 50).
 ghost use mathlib.Core.Path.{_≡_};
 ghost use Prim.Native.Nat.{_+_, _<_};
 ghost use lib.ListN.{length};
@@ -22,20 +23,20 @@ pub fn bytes(f: Flat) -> [u8; 20]
         c.which,
         c.count,
         p.bits,
+        (p.row % 256) as u8,
+        (p.row / 256 % 256) as u8,
         (f.mark % 256) as u8,
         (f.mark / 256 % 256) as u8,
-        (f.rows % 256) as u8,
-        (f.rows / 256 % 256) as u8,
-        (f.lent % 256) as u8,
-        (f.lent / 256 % 256) as u8,
+        (p.end % 256) as u8,
+        (p.end / 256 % 256) as u8,
         (p.left % 256) as u8,
         (p.left / 256 % 256) as u8,
         (p.at % 256) as u8,
         (p.at / 256 % 256) as u8,
-        (p.end % 256) as u8,
-        (p.end / 256 % 256) as u8,
-        (p.row % 256) as u8,
-        (p.row / 256 % 256) as u8,
+        (f.rows % 256) as u8,
+        (f.rows / 256 % 256) as u8,
+        (f.lent % 256) as u8,
+        (f.lent / 256 % 256) as u8,
     ]
 }
 
@@ -69,8 +70,8 @@ fn place_of(b: &[u8]) -> Place
         bits: b[5],
         left: two(b, 12),
         at: two(b, 14),
-        end: two(b, 16),
-        row: two(b, 18),
+        end: two(b, 10),
+        row: two(b, 6),
     }
 }
 
@@ -84,8 +85,8 @@ pub fn flat_of(b: &[u8]) -> Flat
         stage: b[0],
         code,
         place,
-        mark: two(b, 6),
-        rows: two(b, 8),
-        lent: two(b, 10),
+        mark: two(b, 8),
+        rows: two(b, 16),
+        lent: two(b, 18),
     }
 }

@@ -3,15 +3,15 @@
 ghost use mathlib.Core.Path.{_≡_};
 ghost use mathlib.Core.Bool.{false};
 ghost use mathlib.Core.List.{[], _++_};
-ghost use Prim.Native.Nat.{_≤_, _<_};
+ghost use Prim.Native.Nat.{_+_, _*_, _≤_, _<_};
 ghost use lib.ListN.{length, drop};
 ghost use Rattle.protocol.specs.Transfer.{sent};
 ghost use Rattle.machine.specs.Ask.{meant};
 ghost use Rattle.wipe.specs.Scrub.{scrubAsk};
 ghost use Rattle.wipe.specs.declared.scrub.Scrub.the-variants.{Read};
-ghost use Rattle.state.specs.Bytes.{flatOf};
+ghost use Rattle.state.specs.Bytes.{twoAt};
 ghost use Rattle.telling.specs.Step.{transferStep, padded};
-ghost use Rattle.wiping.specs.Sweep.{Passes, tagsOf, swept, Follows, Clean};
+ghost use Rattle.wiping.specs.Sweep.{Passes, swept, Follows, Clean};
 use framing::frame;
 use framing::write_frame;
 use machine::ask::Ask;
@@ -46,32 +46,26 @@ fn passed(m: usize, rows: usize, p: Chunk, reply: &[u8]) -> Swept
     Swept::Not
 }
 
-// The four tags of a state as one number, which the compiler loads at once.
-fn tags(state: &[u8]) -> usize
-    requires { ⌜ length (now state) ≡ 20 ⌝ }
-    ensures { λ r. ⌜ r ≡ tagsOf (flatOf (now (state .entry))) ⌝ }
+// Four bytes as one number, low byte first, which the compiler loads at once.
+fn four(b: &[u8], at: usize) -> usize
+    requires { ⌜ at + 3 < length (now b) ⌝ }
+    ensures { λ r. ⌜ (r ≡ twoAt (now (b .entry)) at + 65536 * twoAt (now (b .entry)) (at + 2)) × (r < 4294967296) ⌝ }
 {
-    let low = wide(state[0]) + 256 * wide(state[1]);
-    let high = wide(state[2]) + 256 * wide(state[3]);
+    let low = wide(b[at]) + 256 * wide(b[at + 1]);
+    let high = wide(b[at + 2]) + 256 * wide(b[at + 3]);
     low + 65536 * high
 }
 
-// The chunk after the one that a wipe has read, where that is clean. The tags of such a wipe are 12, or 18 with RF off or stuck; 1 for the
-// read; and 0. Rows and data are tested as one number.
+// The chunk after the one that a wipe has read, where that is clean. The first eight bytes of such a wipe are tested as one number: its tags are
+// 12, or 18 with RF off or stuck; 1 for the read; and 0 as all else. So are rows and data.
 pub fn clean_of(state: &[u8], reply: &[u8]) -> Swept
     requires { ⌜ (length (now state) ≡ 20) × (64 ≤ length (now reply)) ⌝ }
     ensures { λ r. ⌜ Clean (now (state .entry)) (now (reply .entry)) r ⌝ }
 {
-    let n = tags(state);
+    let n = four(state, 0) + 4294967296 * four(state, 4);
     let f = flat_of(state);
-    let c = f.code;
     let p = f.place;
-    if ((n == 268) | (n == 274) | (n == 16777490))
-        & (c.count == 0)
-        & (p.bits == 0)
-        & (p.row == 0)
-        & (f.mark <= Session::USER_MEMORY)
-    {
+    if ((n == 268) | (n == 274) | (n == 16777490)) & (f.mark <= Session::USER_MEMORY) {
         let read = Chunk {
             left: p.left,
             at: p.at,

@@ -24,7 +24,7 @@ use Rattle.kept.specs.Bytes.{Bytes}
 use Rattle.kept.proofs.Decode.{bytes-are}
 use Rattle.kept.proofs.Chunks.{stop-inside, scrub-says}
 use Rattle.wiping.specs.Onward.{wipes, bare, moved, Onto, Move}
-use Rattle.wiping.specs.Sweep.{Whole, Passes, tagsOf, chunkBytes, swept, sweptLeft, Follows, Clean}
+use Rattle.wiping.specs.Sweep.{Whole, Passes, headOf, chunkBytes, swept, sweptLeft, Follows, Clean}
 use Rattle.wiping.specs.declared.after.Onward.the-variants as O
 use Rattle.wiping.specs.declared.sweep.Swept.{Swept}
 use Rattle.wiping.specs.declared.sweep.Swept.the-variants as S
@@ -58,10 +58,19 @@ four-move f p k b z e =
       lent = sym z i;
     })
 
--- the four tags, from the number that they make
-tags-are : (s p i w k e : ℕ) → s < 256 → p < 256 → i < 256 → w < 256 → k < 256 → e < 256 → s + 256 * p + 65536 * i + 16777216 * w ≡ k + 256 + 16777216 * e
-    → (s ≡ k) × (p ≡ 1) × (i ≡ 0) × (w ≡ e)
-tags-are s p i w k e hs hp hi hw hk he h = (omega arith, omega arith, omega arith, omega arith)
+-- tags and row, from the number that they make
+head-is : (s p i w c b r k e : ℕ) → s < 256 → p < 256 → i < 256 → w < 256 → c < 256 → b < 256 → k < 256 → e < 256
+    → s + 256 * p + 65536 * i + 16777216 * w + 4294967296 * (c + 256 * b + 65536 * r) ≡ k + 256 + 16777216 * e
+    → (s ≡ k) × (p ≡ 1) × (i ≡ 0) × (w ≡ e) × (c ≡ 0) × (b ≡ 0) × (r ≡ 0)
+head-is s p i w c b r k e hs hp hi hw hc hb hk he h =
+    (omega arith, omega arith, omega arith, omega arith, omega arith, omega arith, omega arith)
+
+-- it is of two numbers of four bytes
+pub head-by : (l : List ℕ) (f : Flat) (a b : ℕ) → f ≡ flatOf l → a ≡ twoAt l 0 + 65536 * twoAt l 2 → b ≡ twoAt l 4 + 65536 * twoAt l 6
+    → a + 4294967296 * b ≡ headOf f
+head-by l f a b ef ea eb =
+    let h : a + 4294967296 * b ≡ headOf (flatOf l) = omega (arith, ea, eb) in
+    h ∙ sym (ap headOf ef)
 
 -- these are the numbers of a wipe that reads a chunk
 pub record Reads (f : Flat) : Type 0 where
@@ -71,44 +80,39 @@ pub record Reads (f : Flat) : Type 0 where
 
 -- the tags are bytes
 abbrev TagsFit : Flat → Type 0
-TagsFit f = (f .stage < 256) × (f .code .phase < 256) × (f .code .inner < 256) × (f .code .which < 256)
+TagsFit f =
+    (f .stage < 256) × (f .code .phase < 256) × (f .code .inner < 256) × (f .code .which < 256) × (f .code .count < 256) × (f .place .bits < 256)
 
 pub tags-fit : (l : List ℕ) (f : Flat) → Bytes l → f ≡ flatOf l → TagsFit f
-tags-fit l f bytes ef = subst TagsFit (sym ef) (bytes 0, bytes 1, bytes 2, bytes 3)
+tags-fit l f bytes ef = subst TagsFit (sym ef) (bytes 0, bytes 1, bytes 2, bytes 3, bytes 4, bytes 5)
 
-module _ (f : Flat) (fit : TagsFit f) (a : f .code .count ≡ 0) (b : f .place .bits ≡ 0) (c : f .place .row ≡ 0) where
-  reads-as : (k e : ℕ) → k < 256 → e < 256 → wipes k e ≡ true → tagsOf f ≡ k + 256 + 16777216 * e → Reads f
+module _ (f : Flat) (fit : TagsFit f) where
+  reads-as : (k e : ℕ) → k < 256 → e < 256 → wipes k e ≡ true → headOf f ≡ k + 256 + 16777216 * e → Reads f
   reads-as k e hk he g h =
-      let t = tags-are (f .stage) (f .code .phase) (f .code .inner) (f .code .which) k e (fit .0) (fit .1) (fit .2) (fit .3) hk he h in
-      let inner = both-so _ _ (eq-eqb (f .code .inner) 0 (t .2)) (eq-eqb (f .code .count) 0 a) in
+      let t = head-is (f .stage) (f .code .phase) (f .code .inner) (f .code .which) (f .code .count) (f .place .bits) (f .place .row) k e (fit .0) (fit .1) (fit .2) (fit .3) (fit .4) (fit .5) hk he h in
+      let inner = both-so _ _ (eq-eqb (f .code .inner) 0 (t .2)) (eq-eqb (f .code .count) 0 (t .4)) in
       record {
         wiper = (λ j. wipes (t .0 j) (t .3 j)) ∙ g;
         phase = t .1;
-        bared = both-so _ _ (both-so _ _ inner (eq-eqb (f .place .bits) 0 b)) (eq-eqb (f .place .row) 0 c);
+        bared = both-so _ _ (both-so _ _ inner (eq-eqb (f .place .bits) 0 (t .5))) (eq-eqb (f .place .row) 0 (t .6));
       }
 
   -- 12, 18, and 18 with RF stuck
-  reads-by : (n : ℕ) → n ≡ tagsOf f → (eqb n 268 || eqb n 274 || eqb n 16777490) ≡ true → Reads f
+  reads-by : (n : ℕ) → n ≡ headOf f → (eqb n 268 || eqb n 274 || eqb n 16777490) ≡ true → Reads f
   reads-by n en e =
       let alone : eqb n 268 ≡ true → Reads f = λ y. reads-as 12 0 (omega arith) (omega arith) refl (sym en ∙ eqb-true n 268 y) in
       let off : eqb n 274 ≡ true → Reads f = λ y. reads-as 18 0 (omega arith) (omega arith) refl (sym en ∙ eqb-true n 274 y) in
       let stuck : eqb n 16777490 ≡ true → Reads f = λ y. reads-as 18 1 (omega arith) (omega arith) refl (sym en ∙ eqb-true n 16777490 y) in
       ⊎-elim (λ x. ⊎-elim alone off (either (eqb n 268) (eqb n 274) x)) stuck (either (eqb n 268 || eqb n 274) (eqb n 16777490) e)
 
--- what the code of `clean_of` tests, n being the tags
+-- what the code of `clean_of` tests, n being the head
 abbrev tested : ℕ → Flat → Bool
-tested n f =
-    (eqb n 268 || eqb n 274 || eqb n 16777490) && eqb (f .code .count) 0 && eqb (f .place .bits) 0 && eqb (f .place .row) 0
-    && leb (f .mark) 8192
+tested n f = (eqb n 268 || eqb n 274 || eqb n 16777490) && leb (f .mark) 8192
 
-pub sweep-says : (f : Flat) (n : ℕ) → TagsFit f → n ≡ tagsOf f → tested n f ≡ true → Reads f × (f .mark ≤ 8192)
+pub sweep-says : (f : Flat) (n : ℕ) → TagsFit f → n ≡ headOf f → tested n f ≡ true → Reads f × (f .mark ≤ 8192)
 sweep-says f n fit en e =
-    let h4 = both _ (leb (f .mark) 8192) e in
-    let h3 = both _ (eqb (f .place .row) 0) (h4 .0) in
-    let h2 = both _ (eqb (f .place .bits) 0) (h3 .0) in
-    let h1 = both _ (eqb (f .code .count) 0) (h2 .0) in
-    let r = reads-by f fit (eqb-true (f .code .count) 0 (h1 .1)) (eqb-true (f .place .bits) 0 (h2 .1)) (eqb-true (f .place .row) 0 (h3 .1)) n en (h1 .0) in
-    (r, leb-true (f .mark) 8192 (h4 .1))
+    let h = both _ (leb (f .mark) 8192) e in
+    (reads-by f fit n en (h .0), leb-true (f .mark) 8192 (h .1))
 
 two-fits : (l : List ℕ) (i : ℕ) → Bytes l → twoAt l i < 65536
 two-fits l i bytes =
@@ -122,7 +126,7 @@ NumbersFit f = (f .rows < 65536) × (f .lent < 65536) × (f .place .left < 65536
 
 pub numbers-fit : (l : List ℕ) (f : Flat) → Bytes l → f ≡ flatOf l → NumbersFit f
 numbers-fit l f bytes ef =
-    subst NumbersFit (sym ef) (two-fits l 8 bytes, two-fits l 10 bytes, two-fits l 12 bytes, two-fits l 14 bytes)
+    subst NumbersFit (sym ef) (two-fits l 16 bytes, two-fits l 18 bytes, two-fits l 12 bytes, two-fits l 14 bytes)
 
 -- rows that lie before a chunk are fewer than 65,536, so that no data is lent
 none-lent : (m rows lent : ℕ) (p : Chunk) → scrubSound m (rows + 65536 * lent) (Read p) ≡ true → lent ≡ 0
@@ -133,7 +137,7 @@ none-lent m rows lent p s =
     omega (arith, i, j)
 
 module _ (l r : List ℕ) (f : Flat) (p : Chunk) (n : ℕ) (long : length l ≡ 20) (bytes : Bytes l) (hr : 64 ≤ length r) (ef : f ≡ flatOf l)
-    (en : n ≡ tagsOf f) (e : tested n f ≡ true) (ep : p ≡ chunkFrom (f .place)) where
+    (en : n ≡ headOf f) (e : tested n f ≡ true) (ep : p ≡ chunkFrom (f .place)) where
   clean-to : (q : Chunk) → Passes (f .mark) (f .rows + 65536 * f .lent) p r (S.To q) → Clean l r (S.To q)
   clean-to q v = (
     subst (λ (x : Chunk). (x .left ≡ q .left + 1) × (x .at + 64 ≡ q .at) × Whole q) (ep ∙ ap (λ (x : Flat). chunkFrom (x .place)) ef)

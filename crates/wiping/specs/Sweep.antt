@@ -4,7 +4,7 @@
 --   Whole p               == the chunk p has all its 64 bytes before the end of the wipe
 --   After p q             == the chunk q is the one after p in its wipe: 64 bytes on, and one fewer comes after it
 --   Passes m rows p got x == where x is a chunk: it comes after p, is whole, and a wipe that reads p goes on to read it, as `Onto` says
---   tagsOf f              == the four tags of the numbers f as one number
+--   headOf f              == the first eight bytes of the numbers f, its tags and the row, as one number
 --   chunkBytes p          == four bytes of the state: the chunks left after p, and where p is
 --   swept l p             == the state's bytes l, with those of p in them
 --   sweptLeft l p t r     == what a step leaves that goes on to read the chunk p
@@ -40,8 +40,10 @@ abbrev pub Passes : ℕ → ℕ → Chunk → List ℕ → Swept → Type 0
 Passes m rows p got (S.To q) = (After p q) × Whole q × Onto m rows (Read p) got rows (Read q)
 Passes m rows p got S.Not = Unit
 
-abbrev pub tagsOf : Flat → ℕ
-tagsOf f = f .stage + 256 * f .code .phase + 65536 * f .code .inner + 16777216 * f .code .which
+abbrev pub headOf : Flat → ℕ
+headOf f =
+    f .stage + 256 * f .code .phase + 65536 * f .code .inner + 16777216 * f .code .which
+    + 4294967296 * (f .code .count + 256 * f .place .bits + 65536 * f .place .row)
 
 abbrev pub chunkBytes : Chunk → List ℕ
 chunkBytes p = p .left % 256 ∷ p .left / 256 % 256 ∷ p .at % 256 ∷ p .at / 256 % 256 ∷ []
