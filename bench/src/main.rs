@@ -292,8 +292,10 @@ fn a_scan() {
     let name = "the wipe's scan of a clean tile, 128 reads, with the part's share";
     line(name, "far below 1", &whole(&times));
     line("one read of it, the part's share taken off", "far below 1", &share(&times, 128.0));
-    let own: Vec<_> =
-        times.iter().map(|[rust, port, part, host]| [rust - part, port - host].map(|t| t / 128.0)).collect();
+    let own: Vec<_> = times
+        .iter()
+        .map(|[rust, port, part, host]| [rust - part, port - host].map(|t| t / 128.0))
+        .collect();
     line("the library's own share of that read, the host's taken off too", "far below 1", &own);
 }
 

@@ -27,8 +27,7 @@ type Len = u64;
 pub type Start = unsafe extern "C" fn(Out, Len, Out, Len, Out, Len) -> u64;
 
 /// What a host tells of a step.
-pub type Reply =
-    unsafe extern "C" fn(Out, Len, Out, Len, Out, Len, In, Len, In, Len, u32) -> u64;
+pub type Reply = unsafe extern "C" fn(Out, Len, Out, Len, Out, Len, In, Len, In, Len, u32) -> u64;
 
 #[rustfmt::skip]
 #[link(name = "skipnadur", kind = "static")]
