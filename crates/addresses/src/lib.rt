@@ -1,4 +1,6 @@
 // The whole image of a URI, for callers that hold what goes in.
+#![tactic(auto)]
+
 ghost use Rattle.std.specs.Prelude.{◌≡◌, length};
 ghost use Rattle.layout.specs.Image.{uri_image};
 ghost use Rattle.judging.specs.Judge.{answer, after};

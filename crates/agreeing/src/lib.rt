@@ -1,4 +1,6 @@
 // Whether numbers agree: a code, a place, and those of a machine that is at no place.
+#![tactic(auto)]
+
 ghost use Rattle.std.specs.Prelude.{◌≡◌, ◌&&◌};
 ghost use Rattle.numbers.specs.Flat.{no_place};
 ghost use Rattle.state.specs.Bytes.{same_code, same_place};

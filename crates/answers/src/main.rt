@@ -3,6 +3,8 @@
 // buffers that stay from line to line: of an export are answered its name, the step that it returns, the step of `skp_tag_dirty`
 // afterwards, whether the state's bytes changed, and the whole transfer and reply arrays. compare/README.md has the lines' form. Cases
 // come from a program, so a number is taken as far as it is digits; a call that is not known is answered by a question mark.
+#![tactic(auto)]
+
 mod codec;
 mod session;
 

@@ -1,4 +1,6 @@
 // The open call's transfer, which a host may ask for once more.
+#![tactic(auto)]
+
 ghost use Rattle.telling.specs.Left.{Leaves, next_left};
 
 use hearing::heard_at;

@@ -1,4 +1,6 @@
 // Where the calls begin that only look at the part or switch it: at their first transfer.
+#![tactic(auto)]
+
 ghost use Rattle.std.specs.Prelude.{◌≡◌};
 ghost use Rattle.protocol.specs.Call as call;
 ghost use Rattle.stages.specs.Turns.{start_of};

@@ -1,4 +1,6 @@
 // Everything before a URI or a text that the caller writes itself.
+#![tactic(auto)]
+
 ghost use Rattle.std.specs.Prelude.{◌≡◌, length};
 ghost use Rattle.layout.specs.Lengths.{uri_payload_len, text_payload_len};
 ghost use Rattle.judging.specs.Judge.{verdict, checks, answer, after};

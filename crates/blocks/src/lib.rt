@@ -1,4 +1,6 @@
 // Finds the message in a tag image that a phone wrote: the container, then block after block.
+#![tactic(auto)]
+
 ghost use Rattle.std.specs.Prelude.{◌≡◌, ◌≤◌, length};
 ghost use Rattle.blocks.specs.Read.{message_from, e1_len, container_len, read_of, number_of};
 

@@ -1,5 +1,7 @@
 // The builders' cases. Which builder a name means is told first, as a number (0 for none), so that no buffer is held while names
 // are compared. `lent` is the buffer that a case lends, whole; `kind` and `text` are room for the bytes that it gives.
+#![tactic(auto)]
+
 use cases::given::given;
 use cases::words::{fifth, fourth, number, third};
 use judging::Built;

@@ -1,4 +1,6 @@
 // Where each call of a session begins: at its first transfer, or over at once.
+#![tactic(auto)]
+
 ghost use Rattle.std.specs.Prelude.{◌≡◌, ◌≤◌};
 ghost use Rattle.stages.specs.Turns.{start_of};
 ghost use Rattle.calling.specs.Calling.{named};

@@ -1,5 +1,7 @@
 // The calls on numbers and on one buffer. Each gets the case's line, writes its answer at `at` and gives the place after it. Which
 // call a name means is told first, as a number (0 for one of another family), so that no buffer is held while names are compared.
+#![tactic(auto)]
+
 use cases::given::given;
 use cases::words::{number, second, third};
 use layout::refusal::Verdict;

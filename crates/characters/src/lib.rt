@@ -1,4 +1,6 @@
 // The character at a place of a text, by the rows of table 3-7 of the Unicode Standard: how many bytes it takes, or that there is none.
+#![tactic(auto)]
+
 ghost use Rattle.std.specs.Prelude.{◌≡◌, ◌<◌, length, drop};
 ghost use Rattle.utf8.specs.Utf8.{first_len};
 

@@ -1,4 +1,6 @@
 // The chunks of a wipe: the first one, the next one, and what the second read of one leads to.
+#![tactic(auto)]
+
 ghost use Rattle.std.specs.Prelude.{◌≡◌, ◌<◌, ◌≤◌, length};
 ghost use Rattle.wipe.specs.Scrub.{size_of, scrub_new, next_chunk, reread_step};
 

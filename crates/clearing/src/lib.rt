@@ -1,4 +1,6 @@
 // Where a wipe begins, how far it reaches, and where each of its steps leads.
+#![tactic(auto)]
+
 ghost use Rattle.std.specs.Prelude.{◌≡◌, ◌≤◌};
 ghost use Rattle.protocol.specs.Mark.{wipe_end};
 ghost use Rattle.stages.specs.Turns.{wipe_turn, wipe_start};

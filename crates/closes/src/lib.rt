@@ -1,4 +1,6 @@
 // Closes an image after a payload that the caller wrote itself.
+#![tactic(auto)]
+
 ghost use Rattle.std.specs.Prelude.{◌≡◌, length};
 ghost use Rattle.closes.specs.Closes.{finish_answer, finish_after};
 

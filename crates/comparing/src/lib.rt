@@ -1,4 +1,6 @@
 // The read back of a write, chunk by chunk.
+#![tactic(auto)]
+
 ghost use Rattle.std.specs.Prelude.{◌≡◌, ◌<◌, ◌≤◌, length};
 ghost use Rattle.writing.specs.Write.{chunk_of, check_new, compared_to, check_step};
 

@@ -1,4 +1,6 @@
 // The capability container before the first block, and the access byte in it.
+#![tactic(auto)]
+
 ghost use Rattle.std.specs.Prelude.{◌≡◌};
 ghost use Rattle.layout.specs.Container.{container_answer, read_only};
 

@@ -1,4 +1,6 @@
 // What a record says: the text of a text record.
+#![tactic(auto)]
+
 ghost use Rattle.std.specs.Prelude.{◌≡◌, ◌+◌, ◌<◌, ◌^◌, length};
 ghost use Rattle.contents.specs.Contents.{payload_at, text_in, text_of};
 ghost use Rattle.pieces.specs.Parts.{payload_of};

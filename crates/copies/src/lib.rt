@@ -1,4 +1,6 @@
 // A long slice into a lent buffer, in parts: what a payload is copied by. Knows nothing of NFC.
+#![tactic(auto)]
+
 ghost use Rattle.std.specs.Prelude.{◌≡◌, ◌+◌, ◌≤◌, min, length};
 ghost use Rattle.slices.specs.Bytes.{Wrote};
 

@@ -1,4 +1,6 @@
 // How many rows a reply counts, by the stage: its transfer need not be made to tell.
+#![tactic(auto)]
+
 ghost use Rattle.std.specs.Prelude.{◌≡◌};
 ghost use Rattle.wipe.specs.Scrub.{scrub_ask};
 ghost use Rattle.counting.specs.Rows.{asks_row, WriteRow, StageRow, StageCount};

@@ -1,4 +1,6 @@
 // A walk with a cursor that the caller lends.
+#![tactic(auto)]
+
 ghost use Rattle.std.specs.Prelude.{◌≡◌};
 ghost use Rattle.cursors.specs.Lent.{entry_of, moved};
 

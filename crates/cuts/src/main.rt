@@ -5,6 +5,8 @@
 //   cuts short [SEED]    a part of that, in seconds
 //
 // The rest of chance comes from the seed, 1 if none is given. Progress goes to standard error, the summary to standard output.
+#![tactic(auto)]
+
 mod sessions;
 mod sweep;
 

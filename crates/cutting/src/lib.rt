@@ -1,4 +1,6 @@
 // Cutting bytes into rows of the memory.
+#![tactic(auto)]
+
 ghost use Rattle.std.specs.Prelude.{◌≡◌, ◌≤◌};
 ghost use Rattle.scan.specs.Rows.{row_len, row_count};
 

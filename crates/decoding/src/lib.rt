@@ -1,4 +1,6 @@
 // Reading a state: bytes that no call leaves are none. And the bytes of one.
+#![tactic(auto)]
+
 ghost use Rattle.std.specs.Prelude.{◌≡◌};
 ghost use Rattle.state.specs.Bytes.{decode_flat, decode_of, encode};
 

@@ -1,5 +1,7 @@
 // Numbers and bytes as text, into a lent buffer.
 // Each writer has been given room by its caller; it keeps every other byte and returns the place after what it wrote.
+#![tactic(auto)]
+
 ghost use Rattle.std.specs.Prelude.{◌≡◌, ◌++◌, ◌∷◌, [], ◌+◌, ◌*◌, ◌≤◌, ◌<◌, length};
 ghost use Rattle.slices.specs.Bytes.{Wrote};
 ghost use Rattle.digits.specs.Text.{decimal, hex_digit, hex_of, type_word};

@@ -1,4 +1,6 @@
 // The image of the empty message.
+#![tactic(auto)]
+
 ghost use Rattle.std.specs.Prelude.{◌≡◌, length};
 ghost use Rattle.layout.specs.Image.{empty_image};
 ghost use Rattle.judging.specs.Judge.{answer, after};

@@ -1,4 +1,6 @@
 // Bytes that are the same as others. They are tested without leaving early, so that a block is tested at once.
+#![tactic(auto)]
+
 ghost use Rattle.std.specs.Prelude.{◌≡◌, length};
 ghost use Rattle.scan.specs.Zeros.{alike};
 

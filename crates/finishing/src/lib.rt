@@ -1,4 +1,6 @@
 // The end of `finish`: whether a phone wrote, how far the wipe then reaches, and where each of its steps leads.
+#![tactic(auto)]
+
 ghost use Rattle.std.specs.Prelude.{◌≡◌, ◌≤◌};
 ghost use Rattle.stages.specs.Turns.{wrote_byte, first_answer, finish_turn, finish_start, status_turn};
 

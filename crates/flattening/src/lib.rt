@@ -1,4 +1,6 @@
 // A session as numbers.
+#![tactic(auto)]
+
 ghost use Rattle.std.specs.Prelude.{◌≡◌, ◌≤◌};
 ghost use Rattle.numbers.specs.Flat.{bit_of, wait_code, open_code, job_code, store_code, setup_code, switch_code, bits_of, row_place, scrub_code, scrub_place, write_code, write_place, stage_tag, stage_code, stage_place, flatten};
 

@@ -1,4 +1,6 @@
 // The code of rf_off and rf_on: the transfer that the switch waits on, and where the reply leads.
+#![tactic(auto)]
+
 ghost use Rattle.std.specs.Prelude.{◌≡◌};
 ghost use Rattle.machine.specs.Switch.{switch_ask, flipped, wanted, looked, switch_step};
 

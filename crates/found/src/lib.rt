@@ -1,4 +1,6 @@
 // The rows of a chunk that a read has found not to be zero, and the next of them that is programmed.
+#![tactic(auto)]
+
 ghost use Rattle.std.specs.Prelude.{◌≡◌, ◌<◌, ◌≤◌, [], ◌∷◌, length};
 ghost use Rattle.wipe.specs.Scrub.{next_row, after_read, read_step};
 

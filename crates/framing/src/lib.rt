@@ -1,4 +1,6 @@
 // The bytes of a transfer, as they stand in the transfer buffer: what is sent, and zeros up to 19; and whether the buffers are long enough.
+#![tactic(auto)]
+
 ghost use Rattle.std.specs.Prelude.{◌≡◌, ◌∷◌, ◌++◌, ◌/◌, ◌%◌, ◌≤◌, length, replicate};
 ghost use Rattle.slices.specs.Bytes.{Wrote};
 ghost use Rattle.protocol.specs.Transfer.{place, sent};

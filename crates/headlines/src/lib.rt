@@ -1,1 +1,3 @@
 // What the library promises, in one file: proofs/Headlines.antt. No code is needed for it.
+
+#![tactic(auto)]

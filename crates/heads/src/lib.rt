@@ -1,4 +1,6 @@
 // The head of a record: how long it is, and the lengths that it says. Whoever calls has seen that it is all there.
+#![tactic(auto)]
+
 ghost use Rattle.std.specs.Prelude.{◌≡◌, ◌≤◌, ◌<◌, ◌^◌, length, get_or};
 ghost use Rattle.heads.specs.Heads.{head_len, payload_len, id_len};
 

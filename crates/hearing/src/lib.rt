@@ -1,4 +1,6 @@
 // Whether a reply is taken: document 01's checks in their order.
+#![tactic(auto)]
+
 ghost use Rattle.std.specs.Prelude.{◌≡◌};
 ghost use Rattle.telling.specs.Left.{misfit, heard_now, heard_by};
 ghost use Rattle.state.specs.Bytes.{decode_of};

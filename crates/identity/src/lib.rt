@@ -1,4 +1,6 @@
 // Whether what answers is the part.
+#![tactic(auto)]
+
 ghost use Rattle.std.specs.Prelude.{◌≡◌, ◌≤◌, length, take};
 ghost use Rattle.protocol.specs.Setup.{is_the_part};
 

@@ -1,4 +1,6 @@
 // The whole image of a text, for callers that hold what goes in, and whether one of a text or a URI is built.
+#![tactic(auto)]
+
 ghost use Rattle.std.specs.Prelude.{◌≡◌, length};
 ghost use Rattle.layout.specs.Image.{text_image};
 ghost use Rattle.judging.specs.Judge.{answer, after};

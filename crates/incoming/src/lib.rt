@@ -1,4 +1,6 @@
 // Bytes as they come over the bus.
+#![tactic(auto)]
+
 ghost use Rattle.std.specs.Prelude.{◌≡◌, ◌+◌, ◌-◌, ◌<◌, leb, length, get_or, drop};
 ghost use Rattle.scan.specs.Zeros.{alike};
 ghost use Rattle.protocol.specs.Transfer.{place_of};

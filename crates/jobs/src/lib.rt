@@ -1,4 +1,6 @@
 // The jobs of a setup: what follows where the session was opened, and where a byte was stored.
+#![tactic(auto)]
+
 ghost use Rattle.std.specs.Prelude.{◌≡◌};
 ghost use Rattle.setup.specs.Setup.{setup_opened, next_job, setup_stored};
 

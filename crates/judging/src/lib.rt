@@ -1,4 +1,6 @@
 // Whether an image is built, and how a build answers.
+#![tactic(auto)]
+
 ghost use Rattle.std.specs.Prelude.{◌≡◌, ◌<◌, ◌^◌};
 ghost use Rattle.judging.specs.Judge.{verdict, checks};
 

@@ -1,4 +1,6 @@
 // The type name of a record in an image, and whether it is the one that is asked for.
+#![tactic(auto)]
+
 ghost use Rattle.std.specs.Prelude.{◌≡◌};
 ghost use Rattle.pieces.specs.Parts.{kind_of, is_of};
 

@@ -1,5 +1,7 @@
 // Writes the image of a label to standard output: the text that its first argument gives, for a tile whose area is 8,184 bytes.
 // A label that is refused is named with its number on standard error, and nothing is written.
+#![tactic(auto)]
+
 use image::text_image;
 use judging::Built;
 use layout::refusal::Refusal;

@@ -1,4 +1,6 @@
 // What the short way of a wipe leaves in the lent state and transfer.
+#![tactic(auto)]
+
 ghost use Rattle.std.specs.Prelude.{◌≡◌, false, [], ◌++◌, ◌≤◌, length, drop};
 ghost use Rattle.protocol.specs.Transfer.{sent};
 ghost use Rattle.machine.specs.Ask.{meant};

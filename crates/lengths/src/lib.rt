@@ -1,4 +1,6 @@
 // Lengths of a tag image with one record, and of what stands in it. A length past 64 bits is given as the largest 64-bit number.
+#![tactic(auto)]
+
 ghost use Rattle.std.specs.Prelude.{◌≡◌, ◌+◌};
 ghost use Rattle.layout.specs.Lengths.{sat, head_len, block_len, image_len};
 

@@ -1,4 +1,6 @@
 // What a record says: the prefix and the rest of a URI record.
+#![tactic(auto)]
+
 ghost use Rattle.std.specs.Prelude.{◌≡◌, ◌+◌, ◌<◌, ◌^◌, length};
 ghost use Rattle.pieces.specs.Parts.{payload_of};
 ghost use Rattle.contents.specs.Contents.{payload_at};

@@ -1,5 +1,7 @@
 // What `listtag` prints of an image, into a lent buffer: a line for each record, then how it ended.
 // Each writer but `list` has been given room by its caller; it keeps every other byte and returns the place after what it wrote.
+#![tactic(auto)]
+
 ghost use Rattle.std.specs.Prelude.{◌≡◌, ◌++◌, ◌∷◌, [], ◌+◌, ◌≤◌, length};
 ghost use Rattle.slices.specs.Pick.{pick};
 ghost use Rattle.slices.specs.Bytes.{Wrote};

@@ -1,5 +1,7 @@
 // Lists the records of the image on standard input: a line for each, then `ok` and their number, or `refused` and document 01's number.
 // Standard output has these lines and nothing else; a read or a write that fails is said on standard error.
+#![tactic(auto)]
+
 use libc::{STDERR_FILENO, STDIN_FILENO, STDOUT_FILENO};
 use listing::ROOM;
 use slices::front;

@@ -1,4 +1,6 @@
 // What a read asks of the part.
+#![tactic(auto)]
+
 ghost use Rattle.std.specs.Prelude.{◌≡◌};
 ghost use Rattle.part.specs.Looks.{among, dynamic_at, system_at, user_look, system_look, look_of};
 

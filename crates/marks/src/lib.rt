@@ -1,4 +1,6 @@
 // A new session's state, and the mark of one.
+#![tactic(auto)]
+
 ghost use Rattle.std.specs.Prelude.{◌≡◌};
 ghost use Rattle.telling.specs.Left.{new_step, new_state, dirty_decoded, dirty_step};
 ghost use Rattle.entry.specs.Going.{Inside};

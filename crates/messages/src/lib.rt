@@ -1,4 +1,6 @@
 // What document 01's numbers mean, in one line of English each: the definitions, and where a number's line stands among them.
+#![tactic(auto)]
+
 ghost use Rattle.std.specs.Prelude.{◌≡◌, ◌≤◌, get_or, []};
 ghost use Rattle.messages.specs.Messages.{message_of, lines};
 

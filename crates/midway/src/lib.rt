@@ -1,4 +1,6 @@
 // Whether numbers are those of a wipe, and of the stages in the middle: 8 to 13.
+#![tactic(auto)]
+
 ghost use Rattle.std.specs.Prelude.{◌≡◌, ◌&&◌};
 ghost use Rattle.numbers.specs.Flat.{scrub_code, scrub_place};
 ghost use Rattle.numbers.specs.From.{scrub_from, whole_from};

@@ -1,4 +1,6 @@
 // The whole image of a MIME payload, for callers that hold it.
+#![tactic(auto)]
+
 ghost use Rattle.std.specs.Prelude.{◌≡◌, length};
 ghost use Rattle.layout.specs.Image.{mime_image};
 ghost use Rattle.judging.specs.Judge.{answer, after};

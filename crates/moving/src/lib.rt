@@ -1,4 +1,6 @@
 // Where an acknowledge leads a wipe, from the numbers of its state.
+#![tactic(auto)]
+
 ghost use Rattle.std.specs.Prelude.{◌≡◌, ◌≤◌, length};
 ghost use Rattle.wiping.specs.Onward.{bare, Moves, AnyMoves};
 

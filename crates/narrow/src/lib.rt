@@ -1,5 +1,7 @@
 // Blocks of characters that take one byte or two (ASCII, letters with accents, Greek, Cyrillic): passed at once, by their pairs of
 // neighbours, without a branch for each character.
+#![tactic(auto)]
+
 ghost use Rattle.std.specs.Prelude.{◌≡◌, true, ◌+◌, ◌≤◌, ◌<◌, length, get_or};
 ghost use Rattle.slices.specs.Pick.{pick};
 ghost use Rattle.utf8.specs.Narrow.{later, beside};

@@ -1,4 +1,6 @@
 // What the short way of a wipe notes: whether a stage wipes, and the numbers of the session whose wipe goes on.
+#![tactic(auto)]
+
 ghost use Rattle.std.specs.Prelude.{◌≡◌};
 ghost use Rattle.wiping.specs.Onward.{wipes, moved, noted};
 

@@ -1,4 +1,6 @@
 // The registers of the simulated part as ten numbers, as a host keeps them.
+#![tactic(auto)]
+
 ghost use Rattle.std.specs.Prelude.{◌≡◌};
 ghost use Rattle.tens.specs.Tens.{number_of, kind_of, place_of, size_of, tile_of};
 

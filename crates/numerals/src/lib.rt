@@ -1,4 +1,6 @@
 // A number into a lent buffer, high byte first. Knows nothing of NFC.
+#![tactic(auto)]
+
 ghost use Rattle.std.specs.Prelude.{◌+◌, ◌≤◌, length};
 ghost use Rattle.slices.specs.Bytes.{Wrote, be};
 

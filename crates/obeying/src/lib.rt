@@ -1,4 +1,6 @@
 // What the order that a write is does to the registers.
+#![tactic(auto)]
+
 ghost use Rattle.std.specs.Prelude.{◌≡◌};
 ghost use Rattle.part.specs.Orders.{ordered};
 

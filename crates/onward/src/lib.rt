@@ -1,4 +1,6 @@
 // Where an acknowledge leads a wipe, if it is one that calls leave and goes on.
+#![tactic(auto)]
+
 ghost use Rattle.std.specs.Prelude.{◌≡◌, ◌≤◌, length};
 ghost use Rattle.wiping.specs.Onward.{led_of, Leads, AnyLeads};
 

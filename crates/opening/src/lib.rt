@@ -1,4 +1,6 @@
 // Whether a call may be started: document 01's checks in their order.
+#![tactic(auto)]
+
 ghost use Rattle.std.specs.Prelude.{◌≡◌};
 ghost use Rattle.telling.specs.Left.{opened_now, opened_by, opened_of, mark_of};
 

@@ -1,4 +1,6 @@
 // Everything before a payload that the caller writes itself.
+#![tactic(auto)]
+
 ghost use Rattle.std.specs.Prelude.{◌≡◌, ◌++◌, ◌+◌, ◌<◌, ◌%◌, length};
 ghost use Rattle.layout.specs.Image.{front};
 ghost use Rattle.judging.specs.Judge.{verdict, checks, answer, after};

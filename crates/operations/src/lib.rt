@@ -1,4 +1,6 @@
 // The exports, by the number that `names` gives. Each function gets the parts of the arrays that are lent.
+#![tactic(auto)]
+
 use cases::words::{number, second};
 
 fn first_starts(call: usize, state: &mut [u8], transfer: &mut [u8], reply: &mut [u8]) -> u64 {

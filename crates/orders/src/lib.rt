@@ -1,4 +1,6 @@
 // What a write asks of the part.
+#![tactic(auto)]
+
 ghost use Rattle.std.specs.Prelude.{◌≡◌};
 ghost use Rattle.part.specs.Orders.{user_order, system_order, bare, order_of};
 

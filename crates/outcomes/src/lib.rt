@@ -1,4 +1,6 @@
 // The number that a caller gets for what a call answers, and the value beside it.
+#![tactic(auto)]
+
 ghost use Rattle.std.specs.Prelude.{◌≡◌};
 ghost use Rattle.protocol.specs.Answer.{error_number, answer_number, answer_value};
 

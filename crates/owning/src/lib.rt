@@ -1,4 +1,6 @@
 // Whether numbers are those of the session that they are read as. By the stage's tag, so that no session is made to tell.
+#![tactic(auto)]
+
 ghost use Rattle.std.specs.Prelude.{◌≡◌, ◌&&◌, eqb};
 ghost use Rattle.numbers.specs.Flat.{no_code, no_place, write_code, write_place, flatten};
 ghost use Rattle.numbers.specs.From.{write_from, start_from, end_from, session_from};

@@ -1,5 +1,7 @@
 // Writes the parts of an image into a lent buffer: container, message head, record head.
 // Whoever calls has judged that they fit; every byte after the place that is returned keeps what it was.
+#![tactic(auto)]
+
 ghost use Rattle.std.specs.Prelude.{◌≡◌, true, false, ◌+◌, ◌≤◌, ◌<◌, ◌^◌, length, leb};
 ghost use Rattle.slices.specs.Bytes.{Wrote};
 ghost use Rattle.layout.specs.Lengths.{record_len};

@@ -1,4 +1,6 @@
 // What time does to the simulated part.
+#![tactic(auto)]
+
 ghost use Rattle.std.specs.Prelude.{◌≡◌, ◌-◌};
 ghost use Rattle.part.specs.Part.{with_busy};
 

@@ -1,4 +1,6 @@
 // open_session: the password is presented, waited for, and I2C_SSO_Dyn read.
+#![tactic(auto)]
+
 ghost use Rattle.std.specs.Prelude.{◌≡◌};
 ghost use Rattle.password.specs.Open.{open_ask, presented, open_waited, open_looked, open_step};
 

@@ -1,4 +1,6 @@
 // What stands after a record's type name in an image: id and payload.
+#![tactic(auto)]
+
 ghost use Rattle.std.specs.Prelude.{◌≡◌, ◌+◌};
 ghost use Rattle.layout.specs.Lengths.{sat};
 ghost use Rattle.pieces.specs.Parts.{id_of, payload_of};

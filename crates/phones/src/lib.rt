@@ -1,4 +1,6 @@
 // What a phone's visit does to the simulated part.
+#![tactic(auto)]
+
 ghost use Rattle.std.specs.Prelude.{◌≡◌, length};
 ghost use Rattle.simulated.specs.Simulated.{phoned, memory_phoned};
 

@@ -1,4 +1,6 @@
 // The lines of English themselves, as a table, and a number's line in a lent buffer.
+#![tactic(auto)]
+
 ghost use Rattle.std.specs.Prelude.{◌≡◌, length};
 ghost use Rattle.messages.specs.Messages.{message_of, padded, entry};
 

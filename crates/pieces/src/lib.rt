@@ -1,4 +1,6 @@
 // A part of an image, where it is all there.
+#![tactic(auto)]
+
 ghost use Rattle.std.specs.Prelude.{◌≡◌};
 ghost use Rattle.pieces.specs.Parts.{part_of};
 

@@ -1,4 +1,6 @@
 // What a step of a walk finds where a record stands: the record, placed in the image.
+#![tactic(auto)]
+
 ghost use Rattle.std.specs.Prelude.{◌≡◌, ◌+◌, ◌<◌, ◌^◌};
 ghost use Rattle.records.specs.Parse.{end_of};
 ghost use Rattle.walk.specs.Step.{record_at};

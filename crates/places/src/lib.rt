@@ -1,4 +1,6 @@
 // The parts of a record: where each stands in the image, if it is all there.
+#![tactic(auto)]
+
 ghost use Rattle.std.specs.Prelude.{◌≡◌};
 ghost use Rattle.pieces.specs.Parts.{is_of};
 ghost use Rattle.plain.specs.Reading.{record_of, yes};

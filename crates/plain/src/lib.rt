@@ -1,4 +1,6 @@
 // A message walked, in the form in which C gets it: a cursor and a record's places are lent as plain numbers.
+#![tactic(auto)]
+
 ghost use Rattle.std.specs.Prelude.{◌≡◌, min};
 ghost use Rattle.blocks.specs.Read.{read_of, number_of};
 ghost use Rattle.walk.specs.Step.{start_of};

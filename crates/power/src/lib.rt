@@ -1,4 +1,6 @@
 // What a power cut does to the simulated part.
+#![tactic(auto)]
+
 ghost use Rattle.std.specs.Prelude.{◌≡◌};
 ghost use Rattle.part.specs.Power.{powered};
 ghost use Rattle.simulated.specs.Simulated.{powered_up, memory_left};

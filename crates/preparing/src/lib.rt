@@ -1,4 +1,6 @@
 // Where a reply leads in identify and prepare: who answers, the setup that is done once, and GPO1.
+#![tactic(auto)]
+
 ghost use Rattle.std.specs.Prelude.{◌≡◌, ◌≤◌, length};
 ghost use Rattle.setup.specs.Setup.{identified, configured, judged, setup_step};
 

@@ -1,4 +1,6 @@
 // write: the transfer that it waits on, and where its reply leads. Its rows; the read back is in `comparing`.
+#![tactic(auto)]
+
 ghost use Rattle.std.specs.Prelude.{◌≡◌, ◌+◌, ◌<◌, ◌≤◌, length};
 ghost use Rattle.writing.specs.Write.{piece_of, write_new, next_piece, piece_step, piece_waited, write_ask, write_step, Inside};
 

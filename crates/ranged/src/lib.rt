@@ -1,4 +1,6 @@
 // Where the calls begin that are given a range of the memory: at their first transfer, or over at once.
+#![tactic(auto)]
+
 ghost use Rattle.std.specs.Prelude.{◌≡◌, ◌+◌, ◌≤◌};
 ghost use Rattle.protocol.specs.Call as call;
 ghost use Rattle.protocol.specs.Mark.{widened};

@@ -1,4 +1,6 @@
 // How far bytes reach: the end of those that are not zero.
+#![tactic(auto)]
+
 ghost use Rattle.std.specs.Prelude.{◌≡◌, ◌≤◌, ◌<◌, length};
 ghost use Rattle.scan.specs.Zeros.{high_water, Back};
 

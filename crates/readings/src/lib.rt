@@ -1,4 +1,6 @@
 // The reader's call: an image, and every record of its message with its parts, its text and its URI, and how the walk ended.
+#![tactic(auto)]
+
 use blocks::Message;
 use contents::Part;
 use lines::said;

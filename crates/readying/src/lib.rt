@@ -1,4 +1,6 @@
 // Where the calls begin that make the part ready: its set-up, and the wipe, which may be over at once.
+#![tactic(auto)]
+
 ghost use Rattle.std.specs.Prelude.{◌≡◌, ◌≤◌};
 ghost use Rattle.protocol.specs.Call as call;
 ghost use Rattle.stages.specs.Turns.{start_of};

@@ -1,4 +1,6 @@
 // One record of a message: where its parts stand.
+#![tactic(auto)]
+
 ghost use Rattle.std.specs.Prelude.{◌≡◌, true, ◌≤◌, ◌<◌, ◌^◌, get_or};
 ghost use Rattle.heads.specs.Heads.{flag};
 ghost use Rattle.records.specs.Parse.{whole_of, parse_of, number_of};

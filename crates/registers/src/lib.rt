@@ -1,4 +1,6 @@
 // The registers of the simulated part with one thing changed.
+#![tactic(auto)]
+
 ghost use Rattle.std.specs.Prelude.{◌≡◌, true};
 ghost use Rattle.part.specs.Part.{byte_at, with_rf, with_session, with_reported, with_busy, with_cycle, with_byte};
 

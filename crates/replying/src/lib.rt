@@ -1,4 +1,6 @@
 // A reply is taken, on the lent state and buffers: the 64-bit step (telling/specs/Step) is returned, and what telling/specs/Left says is left.
+#![tactic(auto)]
+
 ghost use Rattle.std.specs.Prelude.{length};
 ghost use Rattle.telling.specs.Left.{Leaves, replied_left, reply_left};
 ghost use Rattle.telling.specs.declared.opening.Heard.TheVariants.{Goes};

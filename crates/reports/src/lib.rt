@@ -1,4 +1,6 @@
 // What the program `cuts` says: progress and complaints on standard error, the summary on standard output.
+#![tactic(auto)]
+
 use libc::{STDERR_FILENO, STDOUT_FILENO};
 use stand::plan::Plan;
 use stand::tally::Tally;

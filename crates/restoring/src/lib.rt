@@ -1,4 +1,6 @@
 // The session that numbers are, whatever they are: `flatten` then tells whether they are its own.
+#![tactic(auto)]
+
 ghost use Rattle.std.specs.Prelude.{◌≡◌};
 ghost use Rattle.numbers.specs.From.{wait_from, open_from, job_from, store_from, setup_from, switch_from, chunk_from, rows_from, scrub_from, piece_from, check_from, write_from, start_from, whole_from, end_from, now_from, session_from};
 

@@ -1,4 +1,6 @@
 // What a turn leaves of a session, and how long `out` is.
+#![tactic(auto)]
+
 ghost use Rattle.std.specs.Prelude.{◌≡◌};
 ghost use Rattle.session.specs.Steps.{entered, out_of};
 

@@ -1,4 +1,6 @@
 // What a record says: a text, a URI, and a URI's prefix.
+#![tactic(auto)]
+
 ghost use Rattle.std.specs.Prelude.{◌≡◌};
 ghost use Rattle.uri.specs.Prefixes.{prefix_answer};
 ghost use Rattle.contents.specs.Contents.{text_of};

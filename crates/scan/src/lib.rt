@@ -1,4 +1,6 @@
 // Bytes that are all zero. A block is tested without leaving it early, so that it is tested at once.
+#![tactic(auto)]
+
 ghost use Rattle.std.specs.Prelude.{◌≡◌, ◌+◌, ◌≤◌, length, take, drop};
 ghost use Rattle.scan.specs.Zeros.{blank};
 

@@ -1,4 +1,6 @@
 // scrub: the transfer that the wipe waits on, and where its reply leads.
+#![tactic(auto)]
+
 ghost use Rattle.std.specs.Prelude.{◌≡◌, ◌<◌, ◌≤◌, length};
 ghost use Rattle.wipe.specs.Scrub.{row_step, waited_step, scrub_ask, scrub_step, Near};
 

@@ -1,4 +1,6 @@
 // Whether the part answers what a read asks of it, and what that does to the registers.
+#![tactic(auto)]
+
 ghost use Rattle.std.specs.Prelude.{◌≡◌};
 ghost use Rattle.part.specs.Looks.{known, looked};
 

@@ -1,4 +1,6 @@
 // What stands in the lent buffers after a step.
+#![tactic(auto)]
+
 ghost use Rattle.std.specs.Prelude.{◌≡◌, ◌++◌, ◌<◌, ◌≤◌, length, drop, replicate};
 ghost use Rattle.state.specs.Bytes.{encode};
 ghost use Rattle.telling.specs.Left.{Leaves, into_out, framed, waits_on, settled, started_left};

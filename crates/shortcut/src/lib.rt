@@ -1,5 +1,7 @@
 // A wipe's acknowledged steps by a short way, from the state's bytes to those of the next step: its numbers are read, tested and written as
 // they stand, with no session made of them. Whatever else the state may be is left to the general way.
+#![tactic(auto)]
+
 ghost use Rattle.wiping.specs.Onward.{Short};
 
 use moving::moves;

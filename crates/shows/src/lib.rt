@@ -1,4 +1,6 @@
 // The simulated part is read: it shows its memory, its registers and its identification.
+#![tactic(auto)]
+
 ghost use Rattle.std.specs.Prelude.{◌≡◌, length};
 ghost use Rattle.part.specs.Looks.{shown, bit};
 ghost use Rattle.simulated.specs.Simulated.{both, Fills, did_read, out_read};

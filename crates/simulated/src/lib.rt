@@ -2,6 +2,8 @@
 // one of them is not of the part's size, it refuses everything and changes nothing. What is left open there comes from the caller: how
 // long a cycle takes, what a phone writes, what a cut leaves. Here it takes a write; `shows` has the reads, `passing` time, `power` cuts,
 // `phones` a phone's visit.
+#![tactic(auto)]
+
 ghost use Rattle.std.specs.Prelude.{◌≡◌, length, drop};
 ghost use Rattle.part.specs.Orders.{stored};
 ghost use Rattle.simulated.specs.Simulated.{Stores, refused_by, wrote, memory_wrote};

@@ -1,5 +1,7 @@
 // Writing into a lent buffer: one byte, a whole slice; the front of a slice; a byte as a number. Knows nothing of NFC.
 // Each writer keeps every other byte and returns the place after what it wrote, so that writes chain.
+#![tactic(auto)]
+
 ghost use Rattle.std.specs.Prelude.{◌≡◌, ◌∷◌, [], ◌+◌, ◌≤◌, ◌<◌, length, take};
 ghost use Rattle.slices.specs.Bytes.{Wrote};
 

@@ -1,4 +1,6 @@
 // Whether calls leave such a session: a state that none leaves is no state.
+#![tactic(auto)]
+
 ghost use Rattle.std.specs.Prelude.{◌≡◌, ◌+◌, ◌≤◌};
 ghost use Rattle.session.specs.Sound.{wait_sound, open_sound, store_sound, setup_sound, switch_sound, off_sound, chunk_stop, to_come, row_sound, scrub_sound, under, rows_to, piece_rows, check_rows, write_sound, plain, stage_sound, now_sound, sound};
 

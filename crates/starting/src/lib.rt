@@ -1,4 +1,6 @@
 // A call is started, on the lent state and buffers: the 64-bit step (telling/specs/Step) is returned, and what telling/specs/Left says is left.
+#![tactic(auto)]
+
 ghost use Rattle.std.specs.Prelude.{◌≡◌};
 ghost use Rattle.stages.specs.Turns.{lent_to};
 ghost use Rattle.telling.specs.Left.{Leaves, start_left};

@@ -1,4 +1,6 @@
 // A stage: the transfer that it waits on, and where the reply leads.
+#![tactic(auto)]
+
 ghost use Rattle.std.specs.Prelude.{◌≡◌, ◌≤◌, length};
 ghost use Rattle.stages.specs.Turns.{stage_ask, stage_step};
 ghost use Rattle.stages.specs.Able.{Able, got_by};

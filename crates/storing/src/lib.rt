@@ -1,4 +1,6 @@
 // write_system: one byte into a system register, waited out and read back.
+#![tactic(auto)]
+
 ghost use Rattle.std.specs.Prelude.{◌≡◌};
 ghost use Rattle.storing.specs.Store.{store_ask, store_sent, store_waited, store_looked, store_step};
 

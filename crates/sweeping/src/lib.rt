@@ -1,5 +1,7 @@
 // The read of a clean chunk, from the state's bytes to those of the next read. On a clean tile nearly every step is one, so it has a way
 // of its own: it is seen at once, and only what changes is written.
+#![tactic(auto)]
+
 ghost use Rattle.std.specs.Prelude.{◌≡◌, false, [], ◌++◌, ◌+◌, ◌*◌, ◌≤◌, ◌<◌, length, drop};
 ghost use Rattle.protocol.specs.Transfer.{sent};
 ghost use Rattle.machine.specs.Ask.{meant};

@@ -1,4 +1,6 @@
 // Where a step of RF's switch leads, in the call that it serves.
+#![tactic(auto)]
+
 ghost use Rattle.std.specs.Prelude.{◌≡◌, ◌≤◌};
 ghost use Rattle.stages.specs.Turns.{switch_turn, whole_turn, begin_off_turn, finish_off_turn};
 

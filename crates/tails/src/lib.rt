@@ -1,4 +1,6 @@
 // The bytes of a character after its first, held against the ranges that its row has for them.
+#![tactic(auto)]
+
 ghost use Rattle.std.specs.Prelude.{◌≡◌, ◌+◌, ◌≤◌, ◌<◌, length, drop};
 ghost use Rattle.slices.specs.Pick.{pick};
 ghost use Rattle.utf8.specs.Utf8.{◌to◌, inside, fits};

@@ -1,4 +1,6 @@
 // Whether the part takes what a write asks of it.
+#![tactic(auto)]
+
 ghost use Rattle.std.specs.Prelude.{◌≡◌};
 ghost use Rattle.part.specs.Part.{fits};
 ghost use Rattle.part.specs.Orders.{takes};

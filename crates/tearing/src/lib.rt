@@ -1,4 +1,6 @@
 // What a cut inside a cycle tears: the system byte or the row that was being written.
+#![tactic(auto)]
+
 ghost use Rattle.std.specs.Prelude.{◌≡◌, length};
 ghost use Rattle.part.specs.Power.{torn_byte, torn_row};
 

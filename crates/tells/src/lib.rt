@@ -1,4 +1,6 @@
 // What a build answers, and a container, in the form in which C gets them: a number, and what it carries in a lent array.
+#![tactic(auto)]
+
 ghost use Rattle.std.specs.Prelude.{◌≡◌};
 ghost use Rattle.layout.specs.Numbers.{number_of, values_of, verdict_number};
 ghost use Rattle.layout.specs.Container.{container_answer};

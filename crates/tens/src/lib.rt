@@ -1,4 +1,6 @@
 // The registers of the simulated part from ten numbers, as a host keeps them. Any numbers are taken; `numbered` has the way back.
+#![tactic(auto)]
+
 ghost use Rattle.std.specs.Prelude.{◌≡◌};
 ghost use Rattle.tens.specs.Tens.{cycle_of, registers_of};
 

@@ -1,6 +1,8 @@
 // Whether bytes are well-formed UTF-8.
 // The check is one pass: blocks of ASCII, blocks of characters of one and two bytes, and runs of frequent characters are passed at
 // once, each other character by its row.
+#![tactic(auto)]
+
 ghost use Rattle.std.specs.Prelude.{◌≡◌, true, ◌+◌, ◌≤◌, ◌<◌, length};
 ghost use Rattle.utf8.specs.Utf8.{utf8};
 ghost use Rattle.utf8.specs.Skips.{Skips};

@@ -1,4 +1,6 @@
 // Whether the image of a payload that ends with a text is built: what a text and a URI are judged by.
+#![tactic(auto)]
+
 ghost use Rattle.std.specs.Prelude.{◌≡◌, ◌++◌, ◌<◌, ◌^◌, length};
 ghost use Rattle.judging.specs.Judge.{verdict, checks, encoding};
 

@@ -1,5 +1,7 @@
 // The simulated part for C: what a host that has no tile at hand uses as its bus. The part's registers are ten numbers in an array that
 // the host keeps; memory and identification are lent as bytes. Any numbers are taken.
+#![tactic(auto)]
+
 ghost use Rattle.std.specs.Prelude.{◌≡◌, ◌-◌, length};
 ghost use Rattle.part.specs.Part.{with_busy};
 ghost use Rattle.simulated.specs.Simulated.{wrote, memory_wrote, did_read, out_read, phoned, memory_phoned, powered_up, memory_left};

@@ -1,4 +1,6 @@
 // One block of a tag image that a phone wrote: its length, and what it is.
+#![tactic(auto)]
+
 ghost use Rattle.std.specs.Prelude.{◌≡◌, ◌≤◌, ◌<◌, length};
 ghost use Rattle.tlv.specs.Blocks.{tlv_length, block_of, body_of};
 

@@ -1,4 +1,6 @@
 // How long a tag image is by what it says: a well-known record, a MIME record, a URI, a text.
+#![tactic(auto)]
+
 ghost use Rattle.std.specs.Prelude.{◌≡◌};
 ghost use Rattle.layout.specs.Lengths.{sat, image_len, uri_payload_len, text_payload_len};
 

@@ -1,4 +1,6 @@
 // Where a step of set-up, of waiting and of a write leads, in the call that it serves; and where a read does.
+#![tactic(auto)]
+
 ghost use Rattle.std.specs.Prelude.{◌≡◌, length};
 ghost use Rattle.stages.specs.Turns.{identify_turn, prepare_turn, begin_turn, wait_turn, write_turn, read_turn, whole_read_turn};
 

@@ -1,4 +1,6 @@
 // The URI prefixes that one byte stands for (NFC Forum URI Record Type Definition).
+#![tactic(auto)]
+
 ghost use Rattle.std.specs.Prelude.{◌≡◌};
 ghost use Rattle.uri.specs.Prefixes.{prefix_answer};
 

@@ -1,4 +1,6 @@
 // Where the calls of a visit begin: before the visitor comes, while the part is live, and after it.
+#![tactic(auto)]
+
 ghost use Rattle.std.specs.Prelude.{◌≡◌};
 ghost use Rattle.protocol.specs.Call as call;
 ghost use Rattle.stages.specs.Turns.{start_of};

@@ -1,4 +1,6 @@
 // A walk over the message of an image, record by record, with a cursor: where it starts, and what it can find.
+#![tactic(auto)]
+
 ghost use Rattle.std.specs.Prelude.{◌≡◌};
 ghost use Rattle.walk.specs.Step.{start_of, number_of};
 

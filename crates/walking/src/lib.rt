@@ -1,4 +1,6 @@
 // A step of a walk: what stands at a cursor, and where the next step begins.
+#![tactic(auto)]
+
 ghost use Rattle.std.specs.Prelude.{◌≡◌, true, ◌+◌, ◌<◌, ◌^◌, length, drop};
 ghost use Rattle.records.specs.Parse.{parse_of};
 ghost use Rattle.records.specs.Plain.{PlainOf};

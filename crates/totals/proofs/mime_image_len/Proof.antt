@@ -1,9 +1,0 @@
-use borrow.Author.Rules.{rules}
-use Rattle.totals.proofs.mime_image_len.Statement.{statement}
-use Rattle.totals.proofs.mime_image_len.Tie as tie
-
-returns : tie.Need-returns
-returns c = c.image-len-for.ensures
-
-pub mime-image-len-spec : {M : Type 1} → statement M
-mime-image-len-spec = tie.close (tie.spec (λ c κs. search rules) returns)
