@@ -7,7 +7,7 @@ ghost use Rattle.blocks.specs.Read.{message_from, e1_len, container_len, read_of
 use tlv::{Block, block_at};
 
 // Where the message of an image stands, its place and its length, or why there is none.
-#[derive(Drop)]
+#[derive(Clone, Copy)]
 pub enum Message {
     At(usize, usize),
     // 11: no container that is known here.

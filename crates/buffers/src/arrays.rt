@@ -11,7 +11,7 @@ pub type Reply = [u8; 72];
 
 pub type Data = [u8; 8300];
 
-#[derive(Drop)]
+#[derive(Clone, Copy)]
 pub struct Lent {
     pub state: usize,
     pub transfer: usize,

@@ -12,7 +12,7 @@ use stages::stage::Turn;
 use visits::{begin, finish, go_live};
 
 // A call, and the numbers that it is given. The bytes of a write are lent beside it.
-#[derive(Drop)]
+#[derive(Clone, Copy)]
 pub enum Call {
     Identify,
     Prepare,

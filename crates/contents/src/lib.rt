@@ -9,7 +9,7 @@ use records::Record;
 use texts::is_utf8;
 
 // A part of an image: its place and its length.
-#[derive(Drop)]
+#[derive(Clone, Copy)]
 pub enum Part {
     At(usize, usize),
     Nothing,

@@ -7,7 +7,7 @@ use stand::bench::{Bench, Identity, Memory, Reply, State, Transfer, kind, starte
 use stand::plan::Plan;
 use stand::tally::{Tally, counted, ended, stepped};
 
-#[derive(Drop)]
+#[derive(Clone, Copy)]
 pub struct Swept {
     pub bench: Bench,
     pub tally: Tally,

@@ -9,7 +9,7 @@ use lengths::image_len_for;
 use parts::record_len;
 
 // A finished build, or one that went as far as its payload: the place after the last byte written.
-#[derive(Drop)]
+#[derive(Clone, Copy)]
 pub enum Built {
     At(usize),
     Refused(Refusal),

@@ -1,5 +1,5 @@
 // Why an image is not built: document 01's numbers 1 to 5, as `number_of` and `values_of` give them.
-#[derive(Drop)]
+#[derive(Clone, Copy)]
 pub enum Refusal {
     // 1: the type name has over 255 bytes.
     TypeTooLong,
@@ -13,7 +13,7 @@ pub enum Refusal {
     NotUtf8,
 }
 
-#[derive(Drop)]
+#[derive(Clone, Copy)]
 pub enum Verdict {
     Fits,
     Not(Refusal),

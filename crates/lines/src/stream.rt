@@ -4,7 +4,7 @@ use libc::{STDIN_FILENO, STDOUT_FILENO};
 use slices::front;
 
 // How far the input has been read and answered.
-#[derive(Drop)]
+#[derive(Clone, Copy)]
 pub struct Feed {
     // So many bytes of the input buffer are there; the line to be answered stands from `from` to `to`, where its line feed is.
     pub have: usize,

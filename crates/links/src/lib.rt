@@ -12,7 +12,7 @@ use texts::is_utf8;
 use uri::{Prefix, uri_prefix};
 
 // A URI: where the rest stands, the prefix's code, and the prefix. Where there is no URI the code is 0 and the prefix empty.
-#[derive(Drop)]
+#[derive(Clone, Copy)]
 pub struct Link {
     pub rest: Part,
     pub code: u8,

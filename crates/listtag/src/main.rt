@@ -7,7 +7,7 @@ use listing::ROOM;
 use slices::front;
 
 // How many bytes standard input gave, or a read that failed.
-#[derive(Drop)]
+#[derive(Clone, Copy)]
 enum Input {
     Bytes(usize),
     Failed,

@@ -1,5 +1,5 @@
 // A transfer, by what it is made of. `meant` in specs/Ask says which one.
-#[derive(Drop)]
+#[derive(Clone, Copy)]
 pub enum Ask {
     // An address-only write.
     Address(u8),

@@ -3,7 +3,7 @@
 ghost use Rattle.std.specs.Prelude.{◌≡◌};
 ghost use Rattle.machine.specs.Switch.{switch_new};
 
-#[derive(Drop)]
+#[derive(Clone, Copy)]
 pub enum Switch {
     Flip(bool, u8),
     // Only for on: RF_MNGT_Dyn = 0.
@@ -12,7 +12,7 @@ pub enum Switch {
     Rest(bool, u8),
 }
 
-#[derive(Drop)]
+#[derive(Clone, Copy)]
 pub enum Switched {
     More(Switch),
     Done,

@@ -4,13 +4,13 @@ ghost use Rattle.machine.specs.Wait.{wait_new, wait_ask, wait_step};
 
 use crate::ask::Ask;
 
-#[derive(Drop)]
+#[derive(Clone, Copy)]
 pub enum Wait {
     Poll(u8),
     Pause(u8),
 }
 
-#[derive(Drop)]
+#[derive(Clone, Copy)]
 pub enum Waited {
     More(Wait),
     Ready,

@@ -5,7 +5,7 @@ ghost use Rattle.std.specs.Prelude.{◌≡◌, ◌≤◌, get_or, []};
 ghost use Rattle.messages.specs.Messages.{message_of, lines};
 
 // A message: its length, and its bytes with zeros after them.
-#[derive(Drop)]
+#[derive(Clone, Copy)]
 pub struct Line {
     pub len: u32,
     pub text: [u8; 32],

@@ -8,14 +8,14 @@ use machine::ask::Ask;
 use machine::wait::{Wait, Waited};
 use protocol::answer::TagError;
 
-#[derive(Drop)]
+#[derive(Clone, Copy)]
 pub enum Open {
     Present,
     Wait(Wait),
     Look,
 }
 
-#[derive(Drop)]
+#[derive(Clone, Copy)]
 pub enum Opened {
     More(Open),
     Done,

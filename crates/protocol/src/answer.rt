@@ -1,7 +1,7 @@
 // What a call answers. `outcomes` has the number that a caller gets for it.
 
 // Why the tag could not do what was asked.
-#[derive(Drop)]
+#[derive(Clone, Copy)]
 pub enum TagError {
     // Nothing acknowledged.
     NoAnswer,
@@ -18,7 +18,7 @@ pub enum TagError {
 }
 
 // What a call answers.
-#[derive(Drop)]
+#[derive(Clone, Copy)]
 pub enum Answer {
     // Done as asked.
     Done,

@@ -10,7 +10,7 @@ use heads::{head_len, id_len, payload_len};
 use slices::wide;
 
 // A record by its places: the type name stands at `kind`, the id right after it, then the payload.
-#[derive(Drop)]
+#[derive(Clone, Copy)]
 pub struct Record {
     pub format: u8,
     pub last: bool,
@@ -21,7 +21,7 @@ pub struct Record {
 }
 
 // What stands at the front of a message's bytes.
-#[derive(Drop)]
+#[derive(Clone, Copy)]
 pub enum Parsed {
     Record(Record),
     // 13: a length or a part is not all there.

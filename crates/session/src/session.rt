@@ -6,13 +6,13 @@ ghost use Rattle.session.specs.Steps.{idle};
 use stages::stage::Stage;
 
 // Whether a call is open, and what it waits on.
-#[derive(Drop)]
+#[derive(Clone, Copy)]
 pub enum Now {
     Idle,
     Open(Stage),
 }
 
-#[derive(Drop)]
+#[derive(Clone, Copy)]
 pub struct Session {
     pub mark: usize,
     // Rows programmed by the open call.

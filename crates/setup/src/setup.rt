@@ -8,7 +8,7 @@ use protocol::answer::TagError;
 use storing::Store;
 
 // The bytes that a setup writes: I2C_CFG, RF_MNGT, GPO1.
-#[derive(Drop)]
+#[derive(Clone, Copy)]
 pub enum Job {
     Config,
     Sleep,
@@ -37,7 +37,7 @@ impl Job {
     }
 }
 
-#[derive(Drop)]
+#[derive(Clone, Copy)]
 pub enum Setup {
     Identify,
     // I2C_CFG is read.
@@ -49,7 +49,7 @@ pub enum Setup {
     Events,
 }
 
-#[derive(Drop)]
+#[derive(Clone, Copy)]
 pub enum SetupStep {
     More(Setup),
     Done,

@@ -17,7 +17,7 @@ use slices::copy_to;
 use taking::taken;
 
 // Whether a transfer was acknowledged, and the registers after it.
-#[derive(Drop)]
+#[derive(Clone, Copy)]
 pub struct Answer {
     pub ack: bool,
     pub registers: Registers,

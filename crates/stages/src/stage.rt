@@ -7,7 +7,7 @@ use wipe::scrub::Scrub;
 use writing::write::Write;
 
 // The transfer that an open call waits on, and what follows it.
-#[derive(Drop)]
+#[derive(Clone, Copy)]
 pub enum Stage {
     Identify,
     Prepare(Setup),
@@ -35,7 +35,7 @@ pub enum Stage {
 }
 
 // Where a reply leads, with the mark after it.
-#[derive(Drop)]
+#[derive(Clone, Copy)]
 pub enum Turn {
     Open(usize, Stage),
     Over(usize, Answer),

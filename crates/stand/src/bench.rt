@@ -13,7 +13,7 @@ pub type Memory = [u8; 8192];
 
 pub type Identity = [u8; 12];
 
-#[derive(Drop)]
+#[derive(Clone, Copy)]
 pub struct Bench {
     pub registers: Registers,
     // The session's last step: what it asks for, or its answer.

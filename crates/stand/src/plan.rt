@@ -1,5 +1,5 @@
 // How many cuts are tried.
-#[derive(Drop)]
+#[derive(Clone, Copy)]
 pub struct Plan {
     // Cut after one step in so many.
     pub every: u64,

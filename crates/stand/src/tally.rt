@@ -4,7 +4,7 @@ ghost use Rattle.stand.specs.Left.{one_if};
 
 use crate::bench::{Bench, kind, more, number};
 
-#[derive(Drop)]
+#[derive(Clone, Copy)]
 pub struct Tally {
     // Steps of the sessions that are cut, and the cuts.
     pub steps: u64,

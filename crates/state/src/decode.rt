@@ -1,7 +1,7 @@
 // What bytes are read as.
 use session::session::Session;
 
-#[derive(Drop)]
+#[derive(Clone, Copy)]
 pub enum Decoded {
     State(Session),
     Nothing,

@@ -8,7 +8,7 @@ use machine::ask::Ask;
 use machine::wait::{Wait, Waited};
 use protocol::answer::TagError;
 
-#[derive(Drop)]
+#[derive(Clone, Copy)]
 pub enum Store {
     Send,
     Pause,
@@ -16,7 +16,7 @@ pub enum Store {
     Look,
 }
 
-#[derive(Drop)]
+#[derive(Clone, Copy)]
 pub enum Stored {
     More(Store),
     Done,

@@ -7,7 +7,7 @@ ghost use Rattle.tlv.specs.Blocks.{tlv_length, block_of, body_of};
 use slices::wide;
 
 // A block's length: the number, and how many bytes it takes itself.
-#[derive(Drop)]
+#[derive(Clone, Copy)]
 pub enum Length {
     Of(usize, usize),
     // 13: it is not all there.
@@ -15,7 +15,7 @@ pub enum Length {
 }
 
 // What stands at the front of the blocks: bytes to step over, the message with its place and length, the end, a length that fails.
-#[derive(Drop)]
+#[derive(Clone, Copy)]
 pub enum Block {
     Over(usize),
     Body(usize, usize),

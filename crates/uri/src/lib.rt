@@ -7,14 +7,14 @@ ghost use Rattle.uri.specs.Prefixes.{prefix_answer};
 use slices::{copy_to, wide};
 
 // A prefix: its length, and its bytes with zeros after them. The longest has 26.
-#[derive(Drop)]
+#[derive(Clone, Copy)]
 pub struct Prefix {
     pub len: usize,
     pub bytes: [u8; 26],
 }
 
 // What looking a code up answers. The entry is empty where the code is not known.
-#[derive(Drop)]
+#[derive(Clone, Copy)]
 pub struct Found {
     pub known: bool,
     pub prefix: Prefix,

@@ -9,14 +9,14 @@ use records::Record;
 
 // Where the next record begins, and where the message ends.
 #[repr(C)]
-#[derive(Drop)]
+#[derive(Clone, Copy)]
 pub struct Cursor {
     pub at: usize,
     pub end: usize,
 }
 
 // What stands at a cursor.
-#[derive(Drop)]
+#[derive(Clone, Copy)]
 pub enum Entry {
     Record(Record),
     End,
@@ -27,7 +27,7 @@ pub enum Entry {
 }
 
 // What a step finds, and where the next one begins.
-#[derive(Drop)]
+#[derive(Clone, Copy)]
 pub struct Stepped {
     pub entry: Entry,
     pub next: usize,

@@ -3,7 +3,7 @@ use machine::wait::Wait;
 use protocol::answer::TagError;
 
 // The chunk at `at` of a wipe that ends at `end`, with the chunks left after it.
-#[derive(Drop)]
+#[derive(Clone, Copy)]
 pub struct Chunk {
     pub left: usize,
     pub at: usize,
@@ -11,7 +11,7 @@ pub struct Chunk {
 }
 
 // The row that is programmed, and which of the three after it are to be.
-#[derive(Drop)]
+#[derive(Clone, Copy)]
 pub struct Rows {
     pub row: usize,
     pub x: bool,
@@ -19,7 +19,7 @@ pub struct Rows {
     pub z: bool,
 }
 
-#[derive(Drop)]
+#[derive(Clone, Copy)]
 pub enum Scrub {
     Read(Chunk),
     Row(Chunk, Rows),
@@ -27,7 +27,7 @@ pub enum Scrub {
     Reread(Chunk),
 }
 
-#[derive(Drop)]
+#[derive(Clone, Copy)]
 pub enum Scrubbed {
     More(Scrub),
     Done,

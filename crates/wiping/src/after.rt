@@ -1,7 +1,7 @@
 // Where an acknowledge leads a wipe.
 use wipe::scrub::Scrub;
 
-#[derive(Drop)]
+#[derive(Clone, Copy)]
 pub enum Onward {
     // The rows programmed by then, and where the wipe is.
     To(usize, Scrub),

@@ -2,7 +2,7 @@
 use numbers::flat::Flat;
 use wipe::scrub::Scrub;
 
-#[derive(Drop)]
+#[derive(Clone, Copy)]
 pub enum Next {
     // The state's numbers, and where the wipe is.
     To(Flat, Scrub),

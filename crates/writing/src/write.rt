@@ -3,7 +3,7 @@ use machine::wait::Wait;
 use protocol::answer::TagError;
 
 // The rows of the bytes at `start`: `done` bytes are programmed, and `left` rows come after this one.
-#[derive(Drop)]
+#[derive(Clone, Copy)]
 pub struct Piece {
     pub left: usize,
     pub start: usize,
@@ -11,7 +11,7 @@ pub struct Piece {
 }
 
 // The chunks that are read back: `done` bytes are, alike so far or not, and `left` chunks come after this one.
-#[derive(Drop)]
+#[derive(Clone, Copy)]
 pub struct Check {
     pub left: usize,
     pub start: usize,
@@ -19,14 +19,14 @@ pub struct Check {
     pub alike: bool,
 }
 
-#[derive(Drop)]
+#[derive(Clone, Copy)]
 pub enum Write {
     Row(Piece),
     Wait(Piece, Wait),
     Check(Check),
 }
 
-#[derive(Drop)]
+#[derive(Clone, Copy)]
 pub enum Written {
     More(Write),
     Done,
