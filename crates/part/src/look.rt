@@ -1,6 +1,6 @@
 // What a read asks of the part.
 
-#[derive(Drop)]
+#[derive(Clone, Copy)]
 pub enum Look {
     // User memory, from a place.
     Memory(usize),

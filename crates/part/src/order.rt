@@ -1,6 +1,6 @@
 // What a write asks of the part.
 
-#[derive(Drop)]
+#[derive(Clone, Copy)]
 pub enum Order {
     // The address alone, to the user address.
     Poll,

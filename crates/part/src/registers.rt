@@ -1,7 +1,7 @@
 // What the part holds beside its memory and its identification.
 
 // What the running write cycle programs: what a cut inside it leaves open.
-#[derive(Drop)]
+#[derive(Clone, Copy)]
 pub enum Cycle {
     Nothing,
     // A row write: its place, and how many bytes.
@@ -10,7 +10,7 @@ pub enum Cycle {
     Byte(usize, u8),
 }
 
-#[derive(Drop)]
+#[derive(Clone, Copy)]
 pub struct Registers {
     // The three system bytes: GPO1, RF_MNGT, I2C_CFG.
     pub gpo1: u8,
