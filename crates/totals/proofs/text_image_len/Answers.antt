@@ -1,0 +1,8 @@
+use mathlib.Core.Path.{ap, ◌∙◌}
+use Prim.Native.Nat.{ℕ, ◌+◌}
+use Rattle.layout.specs.Lengths.{sat, image_len}
+use Rattle.layout.proofs.Sizes.{image-sat}
+use Rattle.totals.proofs.text_image_len.Goals as goal
+
+pub returns : goal.returns
+returns c = c.record_image_len.ensures ∙ ap (λ (n : ℕ). sat (image_len 1 n)) c.sat_add.ensures ∙ image-sat 1 (c.args.text_len + 3)
