@@ -1,6 +1,6 @@
 #!/bin/sh
-# Makes target/original: a package around the original's files, which are read
-# where they lie, through links, and never copied.
+# Makes target/original, which git ignores: a package around the original's
+# files, as they lie there now. No links: `rt ci` refuses any in the checkout.
 set -eu
 
 root=$(cd "$(dirname "$0")/.." && pwd)
@@ -14,10 +14,11 @@ source=$(cd "$source" && pwd)
 
 package=$root/target/original
 mkdir -p "$package/src"
-ln -sf "$source/lib.rs" "$package/src/lib.rs"
-ln -sf "$source/tag.rs" "$package/src/tag.rs"
+# Not touched when they are the same, or cargo would build anew each time.
+for f in lib.rs tag.rs; do
+    cmp -s "$source/$f" "$package/src/$f" || cp -f "$source/$f" "$package/src/$f"
+done
 # Left out of the port (document 01, "What is ported"); lib.rs only names it.
-# Not touched when it is there, or cargo would build anew each time.
 if [ ! -f "$package/src/pushtx.rs" ] || [ -s "$package/src/pushtx.rs" ]; then
     : >"$package/src/pushtx.rs"
 fi

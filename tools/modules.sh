@@ -1,76 +1,58 @@
-# Sourced by lib and cuts: the module of LLVM's that the kit's compiler is given for a crate, and its code for another processor than
+# Sourced by lib: the module of LLVM's that the kit's compiler is given for a static library, and its code for another processor than
 # x86-64. The kit compiles for x86-64 alone; the module is the same for all but for three words in it.
-machine=$(uname -m)
-kit=$(dirname "$(dirname "$(rt doc)")")
-own=$kit/on/$machine
+kit=$(tools/kit.py home)
+clang=$kit/toolchain/bin/clang
 room=$(mktemp -d)
 trap 'rm -rf "$room"' EXIT
 
-# The kit once more, as links, with a compiler that keeps the module it is given.
-links() { for f in "$1"/*; do ln -s "$f" "$2/$(basename "$f")"; done; }
-listening_kit() {
-    [ -d "$room/kit" ] && return
-    mkdir -p "$room/kit/on/$machine/toolchain/bin" "$room/kept"
-    links "$kit" "$room/kit" 2>/dev/null || :
-    links "$own" "$room/kit/on/$machine" 2>/dev/null || :
-    links "$own/toolchain/bin" "$room/kit/on/$machine/toolchain/bin"
-    ln -s "$(cd "$own/toolchain/lib" && pwd -P)" "$room/kit/on/$machine/toolchain/lib"
-    rm "$room/kit/on/$machine/toolchain/bin/clang"
-    cat >"$room/kit/on/$machine/toolchain/bin/clang" <<EOS
+# The kit's toolchain once more, as links, with a compiler that keeps the module and the words it is given.
+listening_toolchain() {
+    [ ! -d "$room/toolchain" ] || return 0
+    mkdir -p "$room/toolchain/bin" "$room/kept"
+    ln -s "$kit/toolchain/lib" "$room/toolchain/lib"
+    for f in "$kit"/toolchain/bin/*; do ln -s "$f" "$room/toolchain/bin/$(basename "$f")"; done
+    rm "$room/toolchain/bin/clang"
+    cat >"$room/toolchain/bin/clang" <<EOS
 #!/bin/sh
-for a; do case \$a in *.bc | *.ll) cp "\$a" "$room/kept/" ;; esac; done
-exec "$own/toolchain/bin/clang" "\$@"
+for a; do case \$a in *.bc | *.ll) cp "\$a" "$room/kept/module.bc" && printf '%s\\n' "\$@" >"$room/kept/module.words" ;; esac; done
+exec "$clang" "\$@"
 EOS
-    chmod +x "$room/kit/on/$machine/toolchain/bin/clang"
-    chmod 711 "$room" # rt runs programs as nobody
+    chmod +x "$room/toolchain/bin/clang"
 }
 
 # told WORD..: runs a command whose words are only of interest where it fails.
 told() { "$@" >"$room/say" 2>&1 || { tail -n 20 "$room/say" >&2; return 1; }; }
 
-# Whether build/module/CRATE.bc is of the crate as it stands, which has been checked.
-kept() { cmp -s "target/stamp/$1" "build/module/$1.stamp"; }
-keep() {
-    mkdir -p build/module
-    cp "$room"/kept/* "build/module/$1.bc"
-    cp "target/stamp/$1" "build/module/$1.stamp"
-}
-
-# library_module CRATE: build/module/CRATE.bc, and build/module/CRATE.a as the kit writes it.
+# library_module CRATE: proves and builds CRATE, a static library. build/module has the archive as the kit writes it, CRATE.a, the module,
+# CRATE.bc, and the compiler's words, CRATE.words; CRATE.sum says of which sources they are.
 library_module() {
-    told rt check "$1" || { echo "$1 is not proved" >&2; return 1; }
-    kept "$1" && return
-    listening_kit
+    mkdir -p build/module "crates/$1/out"
+    tools/kit.py sum >"$room/sum"
+    ! cmp -s "$room/sum" "build/module/$1.sum" || return 0
+    tools/kit.py words "$1" >"$room/words" || return 1
+    listening_toolchain
     rm -f "$room"/kept/*
-    RATTLE_HOME=$room/kit told rt staticlib "$1" || return 1
-    keep "$1"
-    cp "target/staticlib/lib$1.a" "build/module/$1.a"
+    (
+        cd "crates/$1"
+        IFS='
+'
+        # shellcheck disable=SC2046
+        told "$kit/bin/rattle" build $(cat "$room/words") --incremental out/incremental --backend llvm --toolchain "$room/toolchain" -o "$room/$1.a"
+    ) || { echo "$1 is not proved" >&2; return 1; }
+    for end in bc words; do cp "$room/kept/module.$end" "build/module/$1.$end"; done
+    cp "$room/$1.a" "build/module/$1.a"
+    cp "$room/sum" "build/module/$1.sum"
 }
 
-# program_module CRATE: build/module/CRATE.bc of a program. Where it was built before anyone listened, it is proved and built once more.
-program_module() {
-    listening_kit
-    for try in first second; do
-        rm -f "$room"/kept/*
-        RATTLE_HOME=$room/kit told rt check "$1" || { echo "$1 is not proved, or its short run failed" >&2; return 1; }
-        if [ -n "$(ls "$room/kept")" ]; then
-            keep "$1"
-            return
-        fi
-        kept "$1" && return
-        rm -f "target/stamp/$1"
-    done
-    echo "$1 was built $try time, and no module was seen" >&2
-    return 1
-}
-
-# compiled CRATE TRIPLE OBJECT WORD..: the module for another processor. The words for x86-64 in it are dropped, nothing else.
+# compiled CRATE TRIPLE OBJECT WORD..: the module for another processor. The words for x86-64 in it are dropped, nothing else; what the kit's
+# compiler is told of LLVM's passes, against faults of theirs, is told here too.
 compiled() {
     name=$1 triple=$2 out=$3
     shift 3
-    clang=$own/toolchain/bin/clang
     "$clang" --target="$triple" -x ir "build/module/$name.bc" -S -emit-llvm -O0 -Xclang -disable-llvm-passes -Wno-override-module \
         -o "$room/told.ll" 2>/dev/null
     sed -E 's/"target-cpu"="[^"]*"//g; s/"target-features"="[^"]*"//g; s/^target datalayout.*$//' "$room/told.ll" >"$room/$name.ll"
-    "$clang" --target="$triple" -x ir -ffunction-sections -fdata-sections -Wno-override-module "$@" -c "$room/$name.ll" -o "$out"
+    # shellcheck disable=SC2046
+    "$clang" --target="$triple" -x ir -ffunction-sections -fdata-sections -Wno-override-module \
+        $(awk 'was == "-mllvm" { print was, $0 } { was = $0 }' "build/module/$name.words") "$@" -c "$room/$name.ll" -o "$out"
 }

@@ -17,66 +17,57 @@ ghost use Rattle.tells.specs.Builds.{Tells, Builds};
 
 use tells::told;
 
-#[unsafe(no_mangle)]
-pub extern "C" fn skp_image_len_for(kind_len: usize, payload: usize) -> usize
+pub fn skp_image_len_for(kind_len: usize, payload: usize) -> usize
     ensures { result ≡ sat (image_len kind_len payload) }
 {
     lengths::image_len_for(kind_len, payload)
 }
 
-#[unsafe(no_mangle)]
-pub extern "C" fn skp_record_image_len(payload: usize) -> usize
+pub fn skp_record_image_len(payload: usize) -> usize
     ensures { result ≡ sat (image_len 1 payload) }
 {
     totals::record_image_len(payload)
 }
 
-#[unsafe(no_mangle)]
-pub extern "C" fn skp_mime_image_len(mime_len: usize, payload: usize) -> usize
+pub fn skp_mime_image_len(mime_len: usize, payload: usize) -> usize
     ensures { result ≡ sat (image_len mime_len payload) }
 {
     totals::mime_image_len(mime_len, payload)
 }
 
-#[unsafe(no_mangle)]
-pub extern "C" fn skp_image_len(uri_len: usize) -> usize
+pub fn skp_image_len(uri_len: usize) -> usize
     ensures { result ≡ sat (image_len 1 (uri_payload_len uri_len)) }
 {
     totals::image_len(uri_len)
 }
 
-#[unsafe(no_mangle)]
-pub extern "C" fn skp_text_image_len(text_len: usize) -> usize
+pub fn skp_text_image_len(text_len: usize) -> usize
     ensures { result ≡ sat (image_len 1 (text_payload_len text_len)) }
 {
     totals::text_image_len(text_len)
 }
 
 // The place after the last byte that is not zero, or 0.
-#[unsafe(no_mangle)]
-pub extern "C" fn skp_high_water(image: &[u8]) -> usize
+pub fn skp_high_water(image: &[u8]) -> usize
     ensures { result ≡ high_water image.now }
 {
     reach::high_water(image)
 }
 
-#[unsafe(no_mangle)]
-pub extern "C" fn skp_capability_container(area: usize, container: &mut [u8; 8]) -> u32
+pub fn skp_capability_container(area: usize, container: &mut [u8; 8]) -> u32
     ensures { (result ≡ verdict_number (container_answer area).verdict) × (container.new ≡ (container_answer area).bytes) }
 {
     tells::capability_container(area, container)
 }
 
-#[unsafe(no_mangle)]
-pub extern "C" fn skp_set_read_only(image: &mut [u8])
+pub fn skp_set_read_only(image: &mut [u8])
     ensures { image.new ≡ read_only image.old }
 {
     container::set_read_only(image)
 }
 
 // Any record: of its type name format the low three bits count.
-#[unsafe(no_mangle)]
-pub extern "C" fn skp_open(
+pub fn skp_open(
     out: &mut [u8],
     area: usize,
     tnf: u8,
@@ -89,8 +80,7 @@ pub extern "C" fn skp_open(
     told(opens::open(out, area, tnf, kind, payload), values)
 }
 
-#[unsafe(no_mangle)]
-pub extern "C" fn skp_begin(
+pub fn skp_begin(
     out: &mut [u8],
     area: usize,
     uri_len: usize,
@@ -102,20 +92,13 @@ pub extern "C" fn skp_begin(
     told(begins::begin(out, area, uri_len, prefix), values)
 }
 
-#[unsafe(no_mangle)]
-pub extern "C" fn skp_begin_text(
-    out: &mut [u8],
-    area: usize,
-    text_len: usize,
-    values: &mut [usize; 2],
-) -> u32
+pub fn skp_begin_text(out: &mut [u8], area: usize, text_len: usize, values: &mut [usize; 2]) -> u32
     ensures { Builds (verdict (checks (length out.old) area 1 (text_payload_len text_len))) (begin_text_bytes area text_len) out.old result values.new out.new }
 {
     told(begins::begin_text(out, area, text_len), values)
 }
 
-#[unsafe(no_mangle)]
-pub extern "C" fn skp_begin_mime(
+pub fn skp_begin_mime(
     out: &mut [u8],
     area: usize,
     mime: &[u8],
@@ -127,15 +110,13 @@ pub extern "C" fn skp_begin_mime(
     told(opens::begin_mime(out, area, mime, payload_len), values)
 }
 
-#[unsafe(no_mangle)]
-pub extern "C" fn skp_finish(out: &mut [u8], at: usize, values: &mut [usize; 2]) -> u32
+pub fn skp_finish(out: &mut [u8], at: usize, values: &mut [usize; 2]) -> u32
     ensures { Tells (finish_answer (length out.old) at) (finish_after out.old at) result values.new out.new }
 {
     told(closes::finish(out, at), values)
 }
 
-#[unsafe(no_mangle)]
-pub extern "C" fn skp_uri_image(
+pub fn skp_uri_image(
     out: &mut [u8],
     area: usize,
     uri: &[u8],
@@ -147,20 +128,13 @@ pub extern "C" fn skp_uri_image(
     told(addresses::uri_image(out, area, uri, prefix), values)
 }
 
-#[unsafe(no_mangle)]
-pub extern "C" fn skp_text_image(
-    out: &mut [u8],
-    area: usize,
-    text: &[u8],
-    values: &mut [usize; 2],
-) -> u32
+pub fn skp_text_image(out: &mut [u8], area: usize, text: &[u8], values: &mut [usize; 2]) -> u32
     ensures { Builds (text_verdict (length out.old) area text.now) (text_image area text.now) out.old result values.new out.new }
 {
     told(image::text_image(out, area, text), values)
 }
 
-#[unsafe(no_mangle)]
-pub extern "C" fn skp_mime_image(
+pub fn skp_mime_image(
     out: &mut [u8],
     area: usize,
     mime: &[u8],
@@ -172,8 +146,7 @@ pub extern "C" fn skp_mime_image(
     told(mime::mime_image(out, area, mime, payload), values)
 }
 
-#[unsafe(no_mangle)]
-pub extern "C" fn skp_empty_image(out: &mut [u8], area: usize, values: &mut [usize; 2]) -> u32
+pub fn skp_empty_image(out: &mut [u8], area: usize, values: &mut [usize; 2]) -> u32
     ensures { Builds (empty_verdict (length out.old) area) (empty_image area) out.old result values.new out.new }
 {
     told(empty::empty_image(out, area), values)

@@ -3,8 +3,7 @@ ghost use Rattle.std.specs.Prelude.{◌≡◌};
 ghost use Rattle.telling.specs.Left.{Leaves, reply_left, next_left, new_step, new_state, dirty_step};
 
 // A reply: 0 for refused, any other number for acknowledged.
-#[unsafe(no_mangle)]
-pub extern "C" fn skp_tag_reply(
+pub fn skp_tag_reply(
     state: &mut [u8],
     transfer: &mut [u8],
     reply: &mut [u8],
@@ -18,30 +17,21 @@ pub extern "C" fn skp_tag_reply(
 }
 
 // The open call's transfer once more; nothing else changes.
-#[unsafe(no_mangle)]
-pub extern "C" fn skp_tag_next(
-    state: &[u8],
-    transfer: &mut [u8],
-    reply: &[u8],
-    lent: &[u8],
-    out: &[u8],
-) -> u64
+pub fn skp_tag_next(state: &[u8], transfer: &mut [u8], reply: &[u8], lent: &[u8], out: &[u8]) -> u64
     ensures { Leaves (next_left state.now transfer.old reply.now lent.now out.now) result state.now transfer.new reply.now }
 {
     asking::next(state, transfer, reply, lent, out)
 }
 
 // A session whose mark is the smaller of `mark` and 8,192. Only a wrong length is refused.
-#[unsafe(no_mangle)]
-pub extern "C" fn skp_tag_new(state: &mut [u8], mark: usize) -> u64
+pub fn skp_tag_new(state: &mut [u8], mark: usize) -> u64
     ensures { (result ≡ new_step state.old) × (state.new ≡ new_state state.old mark) }
 {
     marks::new(state, mark)
 }
 
 // The end of everything that may be non-zero; answered inside an open call too.
-#[unsafe(no_mangle)]
-pub extern "C" fn skp_tag_dirty(state: &[u8]) -> u64
+pub fn skp_tag_dirty(state: &[u8]) -> u64
     ensures { result ≡ dirty_step state.now }
 {
     marks::dirty(state)

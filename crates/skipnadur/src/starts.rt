@@ -7,79 +7,68 @@ ghost use Rattle.telling.specs.Left.{Leaves, start_left};
 use calling::Call;
 use starting::start;
 
-#[unsafe(no_mangle)]
-pub extern "C" fn skp_tag_identify(state: &mut [u8], transfer: &mut [u8], reply: &mut [u8]) -> u64
+pub fn skp_tag_identify(state: &mut [u8], transfer: &mut [u8], reply: &mut [u8]) -> u64
     ensures { Leaves (start_left call.identify state.old transfer.old reply.old) result state.new transfer.new reply.new }
 {
     start(state, transfer, reply, &[], Call::Identify)
 }
 
-#[unsafe(no_mangle)]
-pub extern "C" fn skp_tag_prepare(state: &mut [u8], transfer: &mut [u8], reply: &mut [u8]) -> u64
+pub fn skp_tag_prepare(state: &mut [u8], transfer: &mut [u8], reply: &mut [u8]) -> u64
     ensures { Leaves (start_left call.prepare state.old transfer.old reply.old) result state.new transfer.new reply.new }
 {
     start(state, transfer, reply, &[], Call::Prepare)
 }
 
-#[unsafe(no_mangle)]
-pub extern "C" fn skp_tag_wait_ready(state: &mut [u8], transfer: &mut [u8], reply: &mut [u8]) -> u64
+pub fn skp_tag_wait_ready(state: &mut [u8], transfer: &mut [u8], reply: &mut [u8]) -> u64
     ensures { Leaves (start_left call.wait_ready state.old transfer.old reply.old) result state.new transfer.new reply.new }
 {
     start(state, transfer, reply, &[], Call::WaitReady)
 }
 
-#[unsafe(no_mangle)]
-pub extern "C" fn skp_tag_rf_off(state: &mut [u8], transfer: &mut [u8], reply: &mut [u8]) -> u64
+pub fn skp_tag_rf_off(state: &mut [u8], transfer: &mut [u8], reply: &mut [u8]) -> u64
     ensures { Leaves (start_left call.rf_off state.old transfer.old reply.old) result state.new transfer.new reply.new }
 {
     start(state, transfer, reply, &[], Call::RfOff)
 }
 
-#[unsafe(no_mangle)]
-pub extern "C" fn skp_tag_rf_on(state: &mut [u8], transfer: &mut [u8], reply: &mut [u8]) -> u64
+pub fn skp_tag_rf_on(state: &mut [u8], transfer: &mut [u8], reply: &mut [u8]) -> u64
     ensures { Leaves (start_left call.rf_on state.old transfer.old reply.old) result state.new transfer.new reply.new }
 {
     start(state, transfer, reply, &[], Call::RfOn)
 }
 
-#[unsafe(no_mangle)]
-pub extern "C" fn skp_tag_rf_wrote(state: &mut [u8], transfer: &mut [u8], reply: &mut [u8]) -> u64
+pub fn skp_tag_rf_wrote(state: &mut [u8], transfer: &mut [u8], reply: &mut [u8]) -> u64
     ensures { Leaves (start_left call.rf_wrote state.old transfer.old reply.old) result state.new transfer.new reply.new }
 {
     start(state, transfer, reply, &[], Call::RfWrote)
 }
 
-#[unsafe(no_mangle)]
-pub extern "C" fn skp_tag_scrub(state: &mut [u8], transfer: &mut [u8], reply: &mut [u8]) -> u64
+pub fn skp_tag_scrub(state: &mut [u8], transfer: &mut [u8], reply: &mut [u8]) -> u64
     ensures { Leaves (start_left call.scrub state.old transfer.old reply.old) result state.new transfer.new reply.new }
 {
     start(state, transfer, reply, &[], Call::Scrub)
 }
 
-#[unsafe(no_mangle)]
-pub extern "C" fn skp_tag_begin(state: &mut [u8], transfer: &mut [u8], reply: &mut [u8]) -> u64
+pub fn skp_tag_begin(state: &mut [u8], transfer: &mut [u8], reply: &mut [u8]) -> u64
     ensures { Leaves (start_left call.begin state.old transfer.old reply.old) result state.new transfer.new reply.new }
 {
     start(state, transfer, reply, &[], Call::Begin)
 }
 
-#[unsafe(no_mangle)]
-pub extern "C" fn skp_tag_go_live(state: &mut [u8], transfer: &mut [u8], reply: &mut [u8]) -> u64
+pub fn skp_tag_go_live(state: &mut [u8], transfer: &mut [u8], reply: &mut [u8]) -> u64
     ensures { Leaves (start_left call.go_live state.old transfer.old reply.old) result state.new transfer.new reply.new }
 {
     start(state, transfer, reply, &[], Call::GoLive)
 }
 
-#[unsafe(no_mangle)]
-pub extern "C" fn skp_tag_finish(state: &mut [u8], transfer: &mut [u8], reply: &mut [u8]) -> u64
+pub fn skp_tag_finish(state: &mut [u8], transfer: &mut [u8], reply: &mut [u8]) -> u64
     ensures { Leaves (start_left call.finish state.old transfer.old reply.old) result state.new transfer.new reply.new }
 {
     start(state, transfer, reply, &[], Call::Finish)
 }
 
 // `out` is lent for its length alone: the host puts the bytes into it.
-#[unsafe(no_mangle)]
-pub extern "C" fn skp_tag_read_user(
+pub fn skp_tag_read_user(
     state: &mut [u8],
     transfer: &mut [u8],
     reply: &mut [u8],
@@ -91,8 +80,7 @@ pub extern "C" fn skp_tag_read_user(
     start(state, transfer, reply, &[], Call::ReadUser(at, out.len()))
 }
 
-#[unsafe(no_mangle)]
-pub extern "C" fn skp_tag_write(
+pub fn skp_tag_write(
     state: &mut [u8],
     transfer: &mut [u8],
     reply: &mut [u8],
@@ -104,8 +92,7 @@ pub extern "C" fn skp_tag_write(
     start(state, transfer, reply, lent, Call::Write(at))
 }
 
-#[unsafe(no_mangle)]
-pub extern "C" fn skp_tag_read_whole(
+pub fn skp_tag_read_whole(
     state: &mut [u8],
     transfer: &mut [u8],
     reply: &mut [u8],

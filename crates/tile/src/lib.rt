@@ -22,14 +22,7 @@ fn ack_of(b: bool) -> u32
 }
 
 // A write of the bytes `sent` to the address `dev`, whose cycle takes `ms` milliseconds, 99 at most: 1 acknowledged, 0 refused.
-#[unsafe(no_mangle)]
-pub extern "C" fn skp_tile_write(
-    tile: &mut Tile,
-    memory: &mut [u8],
-    dev: u8,
-    sent: &[u8],
-    ms: u8,
-) -> u32
+pub fn skp_tile_write(tile: &mut Tile, memory: &mut [u8], dev: u8, sent: &[u8], ms: u8) -> u32
     ensures value { result ≡ acked (wrote dev sent.now ms memory.old (registers_of tile.old)) }
     ensures tile_after { tile.new ≡ tile_of (wrote dev sent.now ms memory.old (registers_of tile.old)).registers }
     ensures memory_after { memory.new ≡ memory_wrote dev sent.now memory.old (registers_of tile.old) }
@@ -41,8 +34,7 @@ pub extern "C" fn skp_tile_write(
 }
 
 // A read from the address `dev`, after `head`, of as many bytes as `out` has: 1 acknowledged, 0 refused.
-#[unsafe(no_mangle)]
-pub extern "C" fn skp_tile_read(
+pub fn skp_tile_read(
     tile: &mut Tile,
     identity: &[u8],
     memory: &[u8],
@@ -61,16 +53,14 @@ pub extern "C" fn skp_tile_read(
 }
 
 // Nothing passes for `ms` milliseconds.
-#[unsafe(no_mangle)]
-pub extern "C" fn skp_tile_wait(tile: &mut Tile, ms: usize)
+pub fn skp_tile_wait(tile: &mut Tile, ms: usize)
     ensures { tile.new ≡ tile_of (with_busy ((registers_of tile.old).busy - ms) (registers_of tile.old)) }
 {
     *tile = tile_of(passing::wait(registers_of(tile), ms));
 }
 
 // A phone writes `bytes` from `at` on. With RF off, or past the memory, nothing changes.
-#[unsafe(no_mangle)]
-pub extern "C" fn skp_tile_phone(tile: &mut Tile, memory: &mut [u8], at: usize, bytes: &[u8])
+pub fn skp_tile_phone(tile: &mut Tile, memory: &mut [u8], at: usize, bytes: &[u8])
     ensures tile_after { tile.new ≡ tile_of (phoned at (length bytes.now) memory.old (registers_of tile.old)) }
     ensures memory_after { memory.new ≡ memory_phoned at bytes.now memory.old (registers_of tile.old) }
 {
@@ -78,8 +68,7 @@ pub extern "C" fn skp_tile_phone(tile: &mut Tile, memory: &mut [u8], at: usize, 
 }
 
 // A cut, and power-up. Inside a cycle it leaves `bytes` of a row write, and the old system byte where `old` is not 0.
-#[unsafe(no_mangle)]
-pub extern "C" fn skp_tile_cut(tile: &mut Tile, memory: &mut [u8], bytes: &[u8], old: u8)
+pub fn skp_tile_cut(tile: &mut Tile, memory: &mut [u8], bytes: &[u8], old: u8)
     ensures tile_after { tile.new ≡ tile_of (powered_up (flag old) memory.old (registers_of tile.old)) }
     ensures memory_after { memory.new ≡ memory_left bytes.now memory.old (registers_of tile.old) }
 {
