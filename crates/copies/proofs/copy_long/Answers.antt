@@ -1,0 +1,19 @@
+use native.Mathlib.Omega.{arith}
+use mathlib.Core.Path.{◌≡◌, refl, ap, sym, subst, ◌∙◌}
+use Prim.Native.Nat.{ℕ, ◌+◌, ◌-◌, ◌≤◌}
+use mathlib.Core.List.{List}
+use lib.ListN.{length, take}
+use lib.Seq.{length-take-le, take_all}
+use borrow.Author.Rules.{rules}
+use Rattle.slices.specs.Bytes.{Wrote}
+use Rattle.slices.proofs.Splice.{splice-none, splice-length}
+use Rattle.copies.proofs.Copied.{part_length, copied_on}
+use Rattle.copies.proofs.copy_long.Goals as goal
+
+pub loop-i-init : goal.loop-i-init
+loop-i-init c = (omega arith, record { bytes = sym (splice-none _ _); place = refl })
+
+pub loop-i-preserved : goal.loop-i-preserved
+loop-i-preserved c = let n = c.part_len-n.result in
+    let whole : c.loop-i.i + n ≤ length c.args.src.now = omega arith in
+    (whole, copied_on c.args.src.now c.loop-i.i n whole c.requires c.loop-i.invariant.1 c.copy_part.ensures)

@@ -1,0 +1,18 @@
+use native.Mathlib.Omega.{arith}
+use mathlib.Core.Path.{◌≡◌, refl, ap, sym, subst, ◌∙◌}
+use Prim.Native.Nat.{ℕ, ◌+◌, ◌-◌, ◌≤◌}
+use mathlib.Core.List.{List}
+use lib.ListN.{length, take}
+use lib.Seq.{length-take-le, take_all}
+use borrow.Author.Rules.{rules}
+use Rattle.slices.specs.Bytes.{Wrote}
+use Rattle.slices.proofs.Splice.{splice-none, splice-length}
+use Rattle.copies.proofs.Copied.{part_length, copied_on}
+use Rattle.copies.proofs.copy_long.Given as goal
+
+-- A part is written where the parts before it ended.
+abbrev pub invariant-loop-i : goal.invariant-loop-i
+invariant-loop-i l = (l.i ≤ length l.src) × Wrote l.initial.out l.at (take l.i l.src) l.out (l.at + l.i)
+
+abbrev pub decreases-loop-i : goal.decreases-loop-i
+decreases-loop-i l = length l.src - l.i

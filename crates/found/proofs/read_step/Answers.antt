@@ -1,0 +1,10 @@
+use borrow.Author.Rules.{rules}
+use mathlib.Core.Path.{ap}
+use mathlib.Core.Bool.{not}
+use Rattle.wipe.proofs.Scrubs.{read_law}
+use Rattle.scan.proofs.Cutting.{part_length}
+use native.Mathlib.Omega.{arith}
+use Rattle.found.proofs.read_step.Goals as goal
+
+pub returns-then-ack : goal.returns-then-ack
+returns-then-ack c = read_law c.args.p _ c.args.reply.now _ _ _ _ _ _ c.if-ack.true c.size-n.ensures (ap not c.blank_row-a.ensures) (ap not c.blank_row-b.ensures) (ap not c.blank_row-c.ensures) (ap not c.blank_row-d.ensures) c.rows_found.ensures

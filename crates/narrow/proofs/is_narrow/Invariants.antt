@@ -1,0 +1,20 @@
+use mathlib.Core.Path.{◌≡◌, sym, ◌∙◌}
+use mathlib.Core.Bool.{true}
+use Prim.Native.Nat.{◌+◌, ◌-◌, ◌≤◌}
+use native.Mathlib.Nat.{add-zero, add_assoc}
+use native.Mathlib.Omega.{arith}
+use lib.ListN.{get_or}
+use borrow.Author.Tests.{not-true}
+use Rattle.slices.specs.Pick.{pick}
+use Rattle.slices.proofs.Truths.{and_left, and_right}
+use Rattle.utf8.specs.Narrow.{later}
+use Rattle.utf8.specs.Skips.{Skips}
+use Rattle.utf8.proofs.Narrow.{narrow_none, narrow_on}
+use Rattle.narrow.proofs.is_narrow.Given as goal
+
+-- The bytes passed so far are such characters where `ok` still holds; a later byte that stands next is passed with its first.
+abbrev pub invariant-loop-k : goal.invariant-loop-k
+invariant-loop-k l = (l.k ≤ l.n) × (l.ok ≡ true → Skips l.s l.i (l.i + l.k + pick (later (get_or l.s (l.i + l.k) 0)) 1 0))
+
+abbrev pub decreases-loop-k : goal.decreases-loop-k
+decreases-loop-k l = l.n - l.k
