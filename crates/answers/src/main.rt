@@ -14,15 +14,18 @@ use buffers::{arrays, names};
 use cases::words::first;
 use lines::stream::Feed;
 use lines::{said, stream};
+use std::io::{Read, Result, Write};
 
 // The end of a line that was answered; the answers are written out once half a buffer is full.
-fn end_line(said: &mut [u8], at: usize, feed: Feed) -> Feed {
+fn end_line<W: Write>(to: &mut W, said: &mut [u8], at: usize, feed: Feed) -> Result<Feed> {
     let end = said::text(said, at, b"\n");
-    stream::after(feed, stream::flushed(said, end, 131072))
+    let next = stream::flushed(to, said, end, 131072)?;
+    Ok(stream::after(feed, next))
 }
 
 // Answers the line that stands in the input.
-fn answered(
+fn answered<W: Write>(
+    to: &mut W,
     input: &[u8],
     feed: Feed,
     lent: Lent,
@@ -35,23 +38,23 @@ fn answered(
     room: &mut Room,
     kind: &mut Room,
     text: &mut Room,
-) -> Feed {
+) -> Result<Feed> {
     let line = stream::line(input, feed);
     let call = names::export(first(line));
     if call != 0 {
         let a = session::export(
             line, said, feed.at, call, lent, state, transfer, reply, data, out,
         );
-        return end_line(said, a, feed);
+        return end_line(to, said, a, feed);
     }
     let operation = names::on_arrays(first(line));
     if operation != 0 {
         arrays::prepare(line, operation, state, transfer, reply, data, out);
         let a = said::text(said, feed.at, first(line));
-        return end_line(said, a, feed);
+        return end_line(to, said, a, feed);
     }
     let a = codec::answer(line, said, feed.at, room, kind, text);
-    end_line(said, a, feed)
+    end_line(to, said, a, feed)
 }
 
 type Input = [u8; 65536];
@@ -59,7 +62,9 @@ type Input = [u8; 65536];
 type Said = [u8; 262144];
 
 // One turn for each line, and for each read.
-fn run(
+fn run<R: Read, W: Write>(
+    from: &mut R,
+    to: &mut W,
     input: &mut Input,
     said: &mut Said,
     state: &mut State,
@@ -70,26 +75,27 @@ fn run(
     room: &mut Room,
     kind: &mut Room,
     text: &mut Room,
-) {
+) -> Result<()> {
     let mut lent = arrays::lent_at_first();
     let mut feed = stream::begun();
     let mut turn: u64 = 0;
     while turn < 1_000_000_000_000 {
-        feed = stream::next(input, said, feed);
+        feed = stream::next(from, to, input, said, feed)?;
         if feed.ended {
-            return;
+            return Ok(());
         }
         if feed.whole {
             lent = arrays::lend(stream::line(input, feed), lent);
             feed = answered(
-                input, feed, lent, said, state, transfer, reply, data, out, room, kind, text,
-            );
+                to, input, feed, lent, said, state, transfer, reply, data, out, room, kind, text,
+            )?;
         }
         turn += 1;
     }
+    Ok(())
 }
 
-fn main() {
+fn main(rt: HostRuntime) -> Result<()> {
     let mut input = [0u8; 65536];
     let mut said = [0u8; 262144];
     let mut state = [0u8; 40];
@@ -102,6 +108,8 @@ fn main() {
     let mut text = [0u8; 66000];
     arrays::fill(&mut state, &mut transfer, &mut reply, &mut data, &mut out);
     run(
+        &mut rt.stdin(),
+        &mut rt.stdout(),
         &mut input,
         &mut said,
         &mut state,
@@ -112,5 +120,5 @@ fn main() {
         &mut room,
         &mut kind,
         &mut text,
-    );
+    )
 }

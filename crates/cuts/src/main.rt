@@ -14,6 +14,8 @@ use crate::sessions::all;
 use cases::words::number;
 use reports::{complain, summary};
 use stand::plan::Plan;
+use std::env::Env;
+use std::io::{Result, Write};
 
 fn full() -> Plan {
     Plan {
@@ -43,40 +45,45 @@ fn is_number(word: &[u8]) -> bool {
 }
 
 // Counts the cuts first, without cutting, so that progress can tell how many there will be.
-fn run(how: &[u8], plan: Plan, seed: u64) {
-    let counted = all(plan, seed);
+fn run<O: Write, E: Write>(
+    out: &mut O,
+    err: &mut E,
+    how: &[u8],
+    plan: Plan,
+    seed: u64,
+) -> Result<()> {
+    let counted = all(err, plan, seed)?;
     let whole = Plan {
         every: plan.every,
         sessions: plan.sessions,
         total: counted.cuts,
     };
-    summary(how, whole, seed, all(whole, seed));
+    let t = all(err, whole, seed)?;
+    summary(out, how, whole, seed, t)
 }
 
-fn chosen(how: &[u8], seed: u64) {
+fn chosen<O: Write, E: Write>(out: &mut O, err: &mut E, how: &[u8], seed: u64) -> Result<()> {
     if check::same(how, b"full") {
-        run(how, full(), seed);
-        return;
+        return run(out, err, how, full(), seed);
     }
     if check::same(how, b"short") {
-        run(how, short(), seed);
-        return;
+        return run(out, err, how, short(), seed);
     }
-    complain(b"the first word is full or short, not", how);
+    complain(err, b"the first word is full or short, not", how)
 }
 
-fn main() {
-    let mut how = io::buffer();
-    let n = os::arg(1, &mut how);
-    let mut word = io::buffer();
-    let k = os::arg(2, &mut word);
+fn main(rt: HostRuntime) -> Result<()> {
+    let mut out = rt.stdout();
+    let mut err = rt.stderr();
+    let mut how = [0u8; 4096];
+    let n = rt.arg(1, &mut how).unwrap_or(0);
+    let mut word = [0u8; 4096];
+    let k = rt.arg(2, &mut word).unwrap_or(0);
     if k == 0 {
-        chosen(&how[..n], 1);
-        return;
+        return chosen(&mut out, &mut err, &how[..n], 1);
     }
     if is_number(&word[..k]) {
-        chosen(&how[..n], number(&word[..k]) as u64);
-        return;
+        return chosen(&mut out, &mut err, &how[..n], number(&word[..k]) as u64);
     }
-    complain(b"the seed is a decimal number, not", &word[..k]);
+    complain(&mut err, b"the seed is a decimal number, not", &word[..k])
 }

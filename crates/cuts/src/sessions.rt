@@ -1,4 +1,4 @@
-// The sessions that are cut: the slowest full wipe, and the museum's day with a tile.
+// The sessions that are cut: the slowest full wipe, and the museum's day with a tile. Progress is told `to` a writer.
 use crate::sweep::{Swept, answered, opened, sweep};
 use skipnadur::replies::skp_tag_new;
 use skipnadur::starts::{
@@ -11,6 +11,7 @@ use stand::chance;
 use stand::left::left;
 use stand::plan::Plan;
 use stand::tally::{Tally, closing, none};
+use std::io::{Result, Write};
 
 // The calls of a session, by their place in the day: begin, a label written, live, read back, finish.
 fn first_step(
@@ -31,7 +32,8 @@ fn first_step(
 }
 
 // One call from its start to its answer, with the label and `out` that it takes: none but for the second and the fourth.
-fn cut_call(
+fn cut_call<W: Write>(
+    to: &mut W,
     s: Swept,
     call: u64,
     plan: Plan,
@@ -42,12 +44,13 @@ fn cut_call(
     reply: &mut Reply,
     label: &[u8],
     out: &mut [u8],
-) -> Swept {
+) -> Result<Swept> {
     let step = first_step(call, state, transfer, reply, label, out);
     let from = opened(s, step);
-    answered(sweep(
-        from, plan, identity, memory, state, transfer, reply, label, out,
-    ))
+    let s = sweep(
+        to, from, plan, identity, memory, state, transfer, reply, label, out,
+    )?;
+    Ok(answered(s))
 }
 
 // The label of bench card 1: the text MARCH1.
@@ -65,7 +68,8 @@ fn visits(s: Swept, memory: &mut Memory) -> Swept {
 }
 
 // The fourth call: phones come, then the whole tile is read back into `out`.
-fn cut_reading(
+fn cut_reading<W: Write>(
+    to: &mut W,
     s: Swept,
     plan: Plan,
     identity: &Identity,
@@ -74,9 +78,10 @@ fn cut_reading(
     transfer: &mut Transfer,
     reply: &mut Reply,
     out: &mut Memory,
-) -> Swept {
+) -> Result<Swept> {
     let v = visits(s, memory);
     cut_call(
+        to,
         v,
         3,
         plan,
@@ -91,7 +96,8 @@ fn cut_reading(
 }
 
 // Another call: the second lends the label, the others nothing.
-fn cut_plain(
+fn cut_plain<W: Write>(
+    to: &mut W,
     s: Swept,
     call: u64,
     plan: Plan,
@@ -100,11 +106,12 @@ fn cut_plain(
     state: &mut State,
     transfer: &mut Transfer,
     reply: &mut Reply,
-) -> Swept {
+) -> Result<Swept> {
     let mut nothing = [0u8; 0];
     let text = label();
     let n = if call == 1 { 24 } else { 0 };
     cut_call(
+        to,
         s,
         call,
         plan,
@@ -118,7 +125,8 @@ fn cut_plain(
     )
 }
 
-fn cut_next(
+fn cut_next<W: Write>(
+    to: &mut W,
     s: Swept,
     call: u64,
     plan: Plan,
@@ -128,11 +136,11 @@ fn cut_next(
     transfer: &mut Transfer,
     reply: &mut Reply,
     out: &mut Memory,
-) -> Swept {
+) -> Result<Swept> {
     if call == 3 {
-        return cut_reading(s, plan, identity, memory, state, transfer, reply, out);
+        return cut_reading(to, s, plan, identity, memory, state, transfer, reply, out);
     }
-    cut_plain(s, call, plan, identity, memory, state, transfer, reply)
+    cut_plain(to, s, call, plan, identity, memory, state, transfer, reply)
 }
 
 // MEM_SIZE 2,047, block size, product, and a UID that ends in E0.
@@ -141,7 +149,14 @@ fn identification() -> Identity {
 }
 
 // The first `calls` calls of a session on the part `b`, whose memory is lent.
-fn day(b: Bench, calls: u64, plan: Plan, memory: &mut Memory, t: Tally) -> Tally {
+fn day<W: Write>(
+    to: &mut W,
+    b: Bench,
+    calls: u64,
+    plan: Plan,
+    memory: &mut Memory,
+    t: Tally,
+) -> Result<Tally> {
     let identity = identification();
     let mut state = [0u8; 20];
     let mut transfer = [0u8; 19];
@@ -152,6 +167,7 @@ fn day(b: Bench, calls: u64, plan: Plan, memory: &mut Memory, t: Tally) -> Tally
     let mut call: u64 = 0;
     while call < calls {
         s = cut_next(
+            to,
             s,
             call,
             plan,
@@ -161,10 +177,10 @@ fn day(b: Bench, calls: u64, plan: Plan, memory: &mut Memory, t: Tally) -> Tally
             &mut transfer,
             &mut reply,
             &mut out,
-        );
+        )?;
         call += 1;
     }
-    finished(s, memory)
+    Ok(finished(s, memory))
 }
 
 fn finished(s: Swept, memory: &Memory) -> Tally {
@@ -174,9 +190,9 @@ fn finished(s: Swept, memory: &Memory) -> Tally {
 }
 
 // Every row full, every cycle as long as can be, a part that was never set up.
-fn wipe(plan: Plan, seed: u64, t: Tally) -> Tally {
+fn wipe<W: Write>(to: &mut W, plan: Plan, seed: u64, t: Tally) -> Result<Tally> {
     let mut memory = [0xa5u8; 8192];
-    day(fresh(0x00, 0, 0x1a, seed, 0), 1, plan, &mut memory, t)
+    day(to, fresh(0x00, 0, 0x1a, seed, 0), 1, plan, &mut memory, t)
 }
 
 // What an earlier day left: 32 bytes somewhere.
@@ -199,7 +215,7 @@ fn gpo1(n: u64, x: u64) -> u8 {
 }
 
 // The n-th museum session: I2C_CFG, RF_MNGT and GPO1 go through their values, the rest is chance.
-fn museum(n: u64, plan: Plan, seed: u64, t: Tally) -> Tally {
+fn museum<W: Write>(to: &mut W, n: u64, plan: Plan, seed: u64, t: Tally) -> Result<Tally> {
     let mut memory = [0u8; 8192];
     let x = chance::next(seed ^ (n % 65536 * 2654435761 + 1));
     let y = leftovers(&mut memory, x);
@@ -207,6 +223,7 @@ fn museum(n: u64, plan: Plan, seed: u64, t: Tally) -> Tally {
     let cfg = if n % 2 == 0 { 0x1a } else { 0x3a };
     let mngt = (n / 2 % 4) as u8;
     day(
+        to,
         fresh(gpo1(n, z), mngt, cfg, z, 100),
         5,
         plan,
@@ -215,12 +232,12 @@ fn museum(n: u64, plan: Plan, seed: u64, t: Tally) -> Tally {
     )
 }
 
-pub fn all(plan: Plan, seed: u64) -> Tally {
-    let mut t = wipe(plan, seed, none(chance::next(seed ^ 0x5bd1e995)));
+pub fn all<W: Write>(to: &mut W, plan: Plan, seed: u64) -> Result<Tally> {
+    let mut t = wipe(to, plan, seed, none(chance::next(seed ^ 0x5bd1e995)))?;
     let mut n: u64 = 0;
     while n < plan.sessions {
-        t = museum(n, plan, seed, t);
+        t = museum(to, n, plan, seed, t)?;
         n += 1;
     }
-    t
+    Ok(t)
 }

@@ -1,4 +1,5 @@
 // A call taken to its answer, with a cut after its steps. The session itself goes on as if nothing had been: each cut is on a copy.
+// Progress is told `to` a writer.
 use reports::progress;
 use rig::attempt::STEPS;
 use rig::trial::trial;
@@ -6,6 +7,7 @@ use rig::turn::turn;
 use stand::bench::{Bench, Identity, Memory, Reply, State, Transfer, kind, started};
 use stand::plan::Plan;
 use stand::tally::{Tally, counted, ended, stepped};
+use std::io::{Result, Write};
 
 #[derive(Clone, Copy)]
 pub struct Swept {
@@ -14,26 +16,28 @@ pub struct Swept {
 }
 
 // One cut, or one more counted.
-fn tried(
+fn tried<W: Write>(
+    to: &mut W,
     b: Bench,
     delayed: bool,
     plan: Plan,
     identity: &Identity,
     memory: &Memory,
     t: Tally,
-) -> Tally {
+) -> Result<Tally> {
     if plan.total == 0 {
-        return counted(t);
+        return Ok(counted(t));
     }
     let u = trial(b, delayed, identity, memory, t);
     if u.cuts % 1000 == 0 {
-        progress(u, plan.total);
+        progress(to, u, plan.total)?;
     }
-    u
+    Ok(u)
 }
 
 // A turn of the session, and the cut after it.
-fn cut_turn(
+fn cut_turn<W: Write>(
+    to: &mut W,
     s: Swept,
     plan: Plan,
     identity: &Identity,
@@ -43,22 +47,23 @@ fn cut_turn(
     reply: &mut Reply,
     lent: &[u8],
     out: &mut [u8],
-) -> Swept {
+) -> Result<Swept> {
     let was = s.bench;
     let before = s.tally;
     let t = stepped(before);
     let bench = turn(was, identity, memory, state, transfer, reply, lent, out);
     if plan.every != 0 {
         if t.steps % plan.every == 0 {
-            let tally = tried(bench, kind(was.step) == 4, plan, identity, memory, t);
-            return Swept { bench, tally };
+            let tally = tried(to, bench, kind(was.step) == 4, plan, identity, memory, t)?;
+            return Ok(Swept { bench, tally });
         }
     }
-    Swept { bench, tally: t }
+    Ok(Swept { bench, tally: t })
 }
 
 // The call whose first step is given, to its answer.
-pub fn sweep(
+pub fn sweep<W: Write>(
+    to: &mut W,
     from: Swept,
     plan: Plan,
     identity: &Identity,
@@ -68,17 +73,19 @@ pub fn sweep(
     reply: &mut Reply,
     lent: &[u8],
     out: &mut [u8],
-) -> Swept {
+) -> Result<Swept> {
     let mut s = from;
     let mut left = STEPS;
     while 0 < left {
         if over(s) {
-            return s;
+            return Ok(s);
         }
-        s = cut_turn(s, plan, identity, memory, state, transfer, reply, lent, out);
+        s = cut_turn(
+            to, s, plan, identity, memory, state, transfer, reply, lent, out,
+        )?;
         left -= 1;
     }
-    s
+    Ok(s)
 }
 
 fn over(s: Swept) -> bool {

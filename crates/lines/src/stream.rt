@@ -1,7 +1,7 @@
 // Standard input and output by the buffer: lines come in as they come, answers go out half a buffer at a time.
 use cases::words::find;
-use libc::{STDIN_FILENO, STDOUT_FILENO};
 use slices::front;
+use std::io::{Read, Result, Write};
 
 // How far the input has been read and answered.
 #[derive(Clone, Copy)]
@@ -30,13 +30,12 @@ pub fn begun() -> Feed {
 }
 
 // Reads once more, after the `have` bytes that are there, and gives how many are there then.
-fn fill(input: &mut [u8], have: usize) -> usize {
+fn fill<R: Read>(reader: &mut R, input: &mut [u8], have: usize) -> Result<usize> {
     if input.len() <= have {
-        return input.len();
+        return Ok(input.len());
     }
-    let free = &mut input[have..];
-    let got = libc::read(STDIN_FILENO, free);
-    have + io::count(got, free)
+    let got = reader.read(&mut input[have..])?;
+    Ok(have + got)
 }
 
 // Moves what stands from `from` to `to` to the front, and gives how much it is; nothing where there is no such part.
@@ -56,12 +55,12 @@ fn keep(input: &mut [u8], from: usize, to: usize) -> usize {
 }
 
 // Writes what has been said once it is `least` bytes, and gives the place where the next line goes.
-pub fn flushed(out: &[u8], at: usize, least: usize) -> usize {
+pub fn flushed<W: Write>(writer: &mut W, out: &[u8], at: usize, least: usize) -> Result<usize> {
     if at < least {
-        return at;
+        return Ok(at);
     }
-    io::write_all(STDOUT_FILENO, front(out, at));
-    0
+    writer.write_all(front(out, at))?;
+    Ok(0)
 }
 
 // What stands from `from` to `to`; nothing where there is no such part.
@@ -80,36 +79,48 @@ pub fn line(input: &[u8], f: Feed) -> &[u8] {
 }
 
 // What has been said goes out, the part of a line that is there goes to the front, and more is read after it.
-fn refilled(input: &mut [u8], out: &[u8], f: Feed) -> Feed {
-    flushed(out, f.at, 0);
+fn refilled<R: Read, W: Write>(
+    reader: &mut R,
+    writer: &mut W,
+    input: &mut [u8],
+    out: &[u8],
+    f: Feed,
+) -> Result<Feed> {
+    let at = flushed(writer, out, f.at, 0)?;
     let kept = keep(input, f.from, f.have);
-    let have = fill(input, kept);
-    Feed {
+    let have = fill(reader, input, kept)?;
+    Ok(Feed {
         have,
         from: 0,
         to: 0,
         whole: false,
         ended: have <= kept,
-        at: 0,
-    }
+        at,
+    })
 }
 
 // The next line, or more to look for it in.
-pub fn next(input: &mut [u8], out: &[u8], f: Feed) -> Feed {
+pub fn next<R: Read, W: Write>(
+    reader: &mut R,
+    writer: &mut W,
+    input: &mut [u8],
+    out: &[u8],
+    f: Feed,
+) -> Result<Feed> {
     let n = find(between(input, f.from, f.have), b'\n');
     if f.from < f.have {
         if n < f.have - f.from {
-            return Feed {
+            return Ok(Feed {
                 have: f.have,
                 from: f.from,
                 to: f.from + n,
                 whole: true,
                 ended: false,
                 at: f.at,
-            };
+            });
         }
     }
-    refilled(input, out, f)
+    refilled(reader, writer, input, out, f)
 }
 
 // The line has been answered, and the next answer goes to `at`.

@@ -1,93 +1,101 @@
-// What the program `cuts` says: progress and complaints on standard error, the summary on standard output.
+// What the program `cuts` says: progress, complaints and the summary, each to the writer that it is given.
 #![tactic(auto)]
 
-use libc::{STDERR_FILENO, STDOUT_FILENO};
 use stand::plan::Plan;
 use stand::tally::Tally;
+use std::io::{Result, Write};
 
-pub fn complain(why: &[u8], word: &[u8]) {
-    io::write_all(STDERR_FILENO, b"cuts: ");
-    io::write_all(STDERR_FILENO, why);
-    io::write_all(STDERR_FILENO, b" '");
-    io::write_all(STDERR_FILENO, word);
-    io::write_all(STDERR_FILENO, b"'; usage: cuts full|short [SEED]\n");
+pub fn complain<W: Write>(to: &mut W, why: &[u8], word: &[u8]) -> Result<()> {
+    to.write_all(b"cuts: ")?;
+    to.write_all(why)?;
+    to.write_all(b" '")?;
+    to.write_all(word)?;
+    to.write_all(b"'; usage: cuts full|short [SEED]\n")
 }
 
-fn piece(text: &[u8], n: u64) {
-    io::write_all(STDERR_FILENO, text);
-    io::print_decimal(STDERR_FILENO, n);
+fn piece<W: Write>(to: &mut W, text: &str, n: u64) -> Result<()> {
+    write!(to, "{text}{n}")
 }
 
 // A line now and then.
-pub fn progress(t: Tally, total: u64) {
-    piece(b"cuts: ", t.cuts);
-    piece(b" of ", total);
-    piece(b", bytes left ", t.left);
-    piece(b", longest recovery ", t.longest);
-    io::write_all(STDERR_FILENO, b" transfers\n");
+pub fn progress<W: Write>(to: &mut W, t: Tally, total: u64) -> Result<()> {
+    piece(to, "cuts: ", t.cuts)?;
+    piece(to, " of ", total)?;
+    piece(to, ", bytes left ", t.left)?;
+    piece(to, ", longest recovery ", t.longest)?;
+    to.write_all(b" transfers\n")
 }
 
-fn row(label: &[u8], n: u64) {
-    io::write_all(STDOUT_FILENO, label);
-    io::print_decimal(STDOUT_FILENO, n);
-    io::write_all(STDOUT_FILENO, b"\n");
+fn row<W: Write>(to: &mut W, label: &str, n: u64) -> Result<()> {
+    writeln!(to, "{label}{n}")
 }
 
-fn tried(t: Tally, plan: Plan) {
-    row(b"days in the museum, after the wipe      ", plan.sessions);
-    row(b"cut after one step in                   ", plan.every);
-    row(b"cuts tried                              ", t.cuts);
-    row(b"  after a transfer                      ", t.transferred);
-    row(b"  after a delay                         ", t.delays);
-    row(b"  of both, inside a write cycle         ", t.cycles);
-    row(b"  of both, cut again while recovering   ", t.again);
+fn tried<W: Write>(to: &mut W, t: Tally, plan: Plan) -> Result<()> {
+    row(
+        to,
+        "days in the museum, after the wipe      ",
+        plan.sessions,
+    )?;
+    row(to, "cut after one step in                   ", plan.every)?;
+    row(to, "cuts tried                              ", t.cuts)?;
+    row(
+        to,
+        "  after a transfer                      ",
+        t.transferred,
+    )?;
+    row(to, "  after a delay                         ", t.delays)?;
+    row(to, "  of both, inside a write cycle         ", t.cycles)?;
+    row(to, "  of both, cut again while recovering   ", t.again)
 }
 
-fn found(t: Tally) {
-    row(b"answers other than Ok                   ", t.refused);
-    row(b"recoveries that left RF on or a mark    ", t.open);
-    row(b"bytes left                              ", t.left);
-    row(b"longest recovery, in transfers          ", t.longest);
-    row(b"longest recovery, in milliseconds       ", t.slowest);
-    row(b"transfers carried out in all            ", t.transfers);
+fn found<W: Write>(to: &mut W, t: Tally) -> Result<()> {
+    row(to, "answers other than Ok                   ", t.refused)?;
+    row(to, "recoveries that left RF on or a mark    ", t.open)?;
+    row(to, "bytes left                              ", t.left)?;
+    row(to, "longest recovery, in transfers          ", t.longest)?;
+    row(to, "longest recovery, in milliseconds       ", t.slowest)?;
+    row(to, "transfers carried out in all            ", t.transfers)
 }
 
 // Where something is wrong, the line tells how to have it again.
-fn verdict(how: &[u8], seed: u64, t: Tally) {
+fn verdict<W: Write>(to: &mut W, how: &[u8], seed: u64, t: Tally) -> Result<()> {
     if t.wrong == 0 {
-        io::write_all(STDOUT_FILENO, b"nothing left\n");
-        return;
+        return line(to, "nothing left");
     }
-    io::write_all(STDOUT_FILENO, b"LEFT: first wrong at cut ");
-    io::print_decimal(STDOUT_FILENO, t.wrong);
-    io::write_all(STDOUT_FILENO, b" of: cuts ");
-    io::write_all(STDOUT_FILENO, how);
-    row(b" ", seed);
+    piece(to, "LEFT: first wrong at cut ", t.wrong)?;
+    to.write_all(b" of: cuts ")?;
+    to.write_all(how)?;
+    row(to, " ", seed)
 }
 
-fn line(text: &[u8]) {
-    io::write_all(STDOUT_FILENO, text);
-    io::write_all(STDOUT_FILENO, b"\n");
+fn line<W: Write>(to: &mut W, text: &str) -> Result<()> {
+    writeln!(to, "{text}")
 }
 
 // What was varied, in words.
-fn varied() {
+fn varied<W: Write>(to: &mut W) -> Result<()> {
     line(
-        b"sessions: the slowest full wipe (every row full, every cycle 99 ms); then days in the museum (begin, a label,",
-    );
+        to,
+        "sessions: the slowest full wipe (every row full, every cycle 99 ms); then days in the museum (begin, a label,",
+    )?;
     line(
-        b"  live, phones, read back, finish; cycles of 0 to 99 ms) with I2C_CFG 1A and 3A, RF_MNGT 0 to 3, GPO1 85 or any",
-    );
+        to,
+        "  live, phones, read back, finish; cycles of 0 to 99 ms) with I2C_CFG 1A and 3A, RF_MNGT 0 to 3, GPO1 85 or any",
+    )?;
     line(
-        b"recoveries: cycles of 99 ms in the first and one of 32, of 0 to 99 ms in one of 4, else of 0 to 3 ms; one of 8 is cut too",
-    );
-    line(b"by chance: torn bytes, a system byte old or new, when a phone comes and what it writes");
+        to,
+        "recoveries: cycles of 99 ms in the first and one of 32, of 0 to 99 ms in one of 4, else of 0 to 3 ms; one of 8 is cut too",
+    )?;
+    line(
+        to,
+        "by chance: torn bytes, a system byte old or new, when a phone comes and what it writes",
+    )
 }
 
-pub fn summary(how: &[u8], plan: Plan, seed: u64, t: Tally) {
-    row(b"seed                                    ", seed);
-    tried(t, plan);
-    found(t);
-    varied();
-    verdict(how, seed, t);
+pub fn summary<W: Write>(to: &mut W, how: &[u8], plan: Plan, seed: u64, t: Tally) -> Result<()> {
+    row(to, "seed                                    ", seed)?;
+    tried(to, t, plan)?;
+    found(to, t)?;
+    varied(to)?;
+    verdict(to, how, seed, t)
 }
