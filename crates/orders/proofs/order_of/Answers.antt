@@ -1,4 +1,3 @@
-use borrow.Author.Rules.{rules}
 use borrow.Author.Tests.{eq-eqb, ne_eqb}
 use Rattle.part.specs.Orders.{order_of}
 use Rattle.orders.proofs.order_of.Goals as goal
