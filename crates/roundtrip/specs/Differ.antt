@@ -5,7 +5,7 @@
 --   payload_of_image   == equal images of one type have equal payloads
 --   text_of_image      == equal images of texts are of one text
 --   uri_of_image       == equal images of URIs have one prefix and one rest
-use Rattle.std.specs.Prelude.{◌≡◌, refl, List, [], ◌∷◌, ◌++◌, ℕ, ◌+◌, ◌≤◌, ◌<◌, length, take, drop}
+use Rattle.std.specs.Prelude.{◌≡◌, refl, List, [], ◌∷◌, ◌++◌, ℕ, ◌≤◌, ◌<◌, length, take, drop}
 use Rattle.std.proofs.Common.{ap, sym, ◌∙◌, ⊎_elim, arith, take_at, drop_at, le-leb, lt-ltb, le-ltb}
 use Rattle.slices.proofs.Cases.{lt_or_ge}
 use Rattle.layout.specs.Lengths.{head_len, block_len, record_len, image_len}
