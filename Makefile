@@ -14,7 +14,7 @@ test:
 cuts:
 	@tools/cuts $(or $(HOW),full) $(S)
 
-# The archives for C, for this machine; or for another processor: make lib TARGET=thumbv7em-none-eabi
+# The archives for C, for x86-64; or for another processor: make lib TARGET=thumbv7em-none-eabi
 lib:
 	@tools/lib $(TARGET)
 
@@ -43,7 +43,7 @@ peers:
 	@tools/peers $(if $(N),-n $(N)) $(if $(S),-s $(S))
 
 fmt:
-	@rt fmt
+	@for crate in crates/*; do (cd "$$crate" && rt fmt) || exit 1; done
 
 clean:
-	rm -rf target build
+	rm -rf target build crates/*/out
