@@ -92,13 +92,13 @@ module _ (k : ℕ) (image : List ℕ) (at end : ℕ) where
 pub record Going (before image after : List ℕ) (start end to at count : ℕ) : Type 0 where
   pub lines : List ℕ
   pub wrote : Wrote before 0 lines after to
-  pub to_come_lem : lines ++ listed count image (walked image at end) ≡ listed 0 image (walked image start end)
+  pub to_go : lines ++ listed count image (walked image at end) ≡ listed 0 image (walked image start end)
 
 pub going_room : {before image after : List ℕ} {start end to at count : ℕ} → Going before image after start end to at count
     → to + length (listed count image (walked image at end)) ≡ length (listed 0 image (walked image start end))
 going_room {image = image} {end = end} {at = at} {count = count} g =
     let p = g.wrote.place in
-    omega (arith, length-append g.lines (listed count image (walked image at end)), ap length g.to-come)
+    omega (arith, length-append g.lines (listed count image (walked image at end)), ap length g.to_go)
 
 module _ {before image after done : List ℕ} {start end to at count next : ℕ} (room : to ≤ length before) (g : Going before image after start end to at count) where
   -- a record's line more
@@ -108,14 +108,14 @@ module _ {before image after done : List ℕ} {start end to at count next : ℕ}
       record {
         lines = g.lines ++ record_line (count + 1) r image;
         wrote = chain room g.wrote w;
-        to_come_lem =
+        to_go =
             append_assoc g.lines (record_line (count + 1) r image) (listed (count + 1) image (walked image place end))
             ∙ ap (λ (m : ℕ). g.lines ++ (record_line (count + 1) r image ++ listed (count + 1) image (walked image m end))) p
             ∙ ap (λ (l : List ℕ). g.lines ++ l) (sym (listed_record count image at end q))
-            ∙ g.to-come;
+            ∙ g.to_go;
       }
 
   -- the last line
   pub gone : {last : List ℕ} → listed count image (walked image at end) ≡ last → Wrote after to last done next
       → Wrote before 0 (listed 0 image (walked image start end)) done next
-  gone q w = wrote_as (ap (λ (l : List ℕ). g.lines ++ l) (sym q) ∙ g.to-come) (chain room g.wrote w)
+  gone q w = wrote_as (ap (λ (l : List ℕ). g.lines ++ l) (sym q) ∙ g.to_go) (chain room g.wrote w)

@@ -31,7 +31,7 @@ right_scrubs p t = scrub_exact t
 
 -- The session that refuses everything: `begin` does not answer Ok.
 pub refuses_everything_lem : NothingLeft refuses_everything → ⊥
-refuses_everything_lem = slip.refuses-everything
+refuses_everything_lem = slip.refuses_everything_lem
 
 -- The wipe that sends nothing: after power-up and `begin` the first byte is 1 as before.
 pub wipes-nothing : NothingLeft wipes_nothing → ⊥
@@ -43,23 +43,23 @@ wipes-first-chunk = slip.wipes-first-chunk
 
 -- The wipe that stops at the mark inside a row: with the mark at 1 it leaves the second byte.
 pub wipes_to_mark_lem : ScrubExact wipes_to_mark → ⊥
-wipes_to_mark_lem = slip.wipes-to-mark
+wipes_to_mark_lem = slip.wipes_to_mark_lem
 
 -- `begin` that wipes before RF is off: a phone writes behind the wipe, and `begin` answers Ok.
 pub begin_early_lem : NothingLeft begin_early → ⊥
-begin_early_lem = early.begin-early
+begin_early_lem = early.begin_early_lem
 
 -- `prepare` that leaves GPO1 alone: after `go_live` a phone writes, and the part reports nothing.
 pub prepare_skips_lem : CoveredOrReported prepare_skips → ⊥
-prepare_skips_lem = slip.prepare-skips
+prepare_skips_lem = slip.prepare_skips_lem
 
 -- The status read after RF is on: a phone writes in between, and its report is lost.
 pub goes_live_late_lem : CoveredOrReported goes_live_late → ⊥
-goes_live_late_lem = slip.goes-live-late
+goes_live_late_lem = slip.goes_live_late_lem
 
 -- `finish` that trusts the mark: a phone wrote where no mark reaches, and its byte is left.
 pub finish_trusts_lem : FinishLeavesNothing finish_trusts → ⊥
-finish_trusts_lem = slip.finish-trusts
+finish_trusts_lem = slip.finish_trusts_lem
 
 -- `finish` that reads the status before RF is off: a phone writes in between, and its byte is left.
 pub finish-asks_early : FinishLeavesNothing finish_asks_early → ⊥
@@ -67,11 +67,11 @@ finish-asks_early = slip.finish-asks_early
 
 -- `write` that does not move the mark: the byte that it wrote is covered by nothing.
 pub write_forgets_lem : CoveredOrReported write_forgets → ⊥
-write_forgets_lem = slip.write-forgets
+write_forgets_lem = slip.write_forgets_lem
 
 -- `read_whole` that reads before RF is off: a phone writes behind the read, and its report is lost.
 pub reads_early_lem : CoveredOrReported reads_early → ⊥
-reads_early_lem = slip.reads-early
+reads_early_lem = slip.reads_early_lem
 
 -- The wrong programs differ from the right one in what is put in, and in nothing else: with the right calls the two forms are it.
 pub but_for_that : (c : Call) (m : Mark) → calls_by setup.prepare w.write_user calls.read_whole s.scrub calls.begin calls.go_live calls.finish c m ≡ call_of c m
