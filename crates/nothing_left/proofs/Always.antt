@@ -19,7 +19,7 @@ use Rattle.protocol.specs.Transfer.{Transfer, Reply, sent, is_row, place_of}
 use Rattle.protocol.specs.Tag.{user, user_memory}
 use Rattle.protocol.specs.Mark.{Mark}
 use Rattle.protocol.specs.Setup.{reports}
-use Rattle.protocol.specs.Proc.{Proc, done, ask, mark, ◌>>=◌, if◌then◌else◌}
+use Rattle.protocol.specs.Proc.{Proc, done, ask, mark, ◌>>=◌, when◌then◌else◌}
 use Rattle.protocol.specs.Trace.{answer_of, mark_of, trace}
 use Rattle.part.specs.Part.{Part, rf_on, with_reported}
 use Rattle.part.specs.Bus.{reply_of, after_of}
@@ -32,7 +32,7 @@ abbrev pub touched : List ℕ → Part → Part
 touched bs p = record {
   identity = p.identity;
   memory = bs;
-  registers = with_reported (if reports p.registers.gpo1 then true else p.registers.reported) p.registers;
+  registers = with_reported (when reports p.registers.gpo1 then true else p.registers.reported) p.registers;
 }
 
 pub data Phone (p : Part) : Part → Type 0 where

@@ -15,7 +15,7 @@ use Rattle.scan.proofs.Blanks.{blank_at, blank-zeros}
 use Rattle.protocol.specs.Transfer.{place}
 use Rattle.protocol.specs.Tag.{user}
 use Rattle.protocol.specs.Mark.{Mark, none, wipe_end}
-use Rattle.protocol.specs.Proc.{mark, Res, ok, or_else, try, fine, if◌then◌else◌}
+use Rattle.protocol.specs.Proc.{mark, Res, ok, or_else, try, fine, when◌then◌else◌}
 use Rattle.protocol.specs.Write.{chunks}
 use Rattle.protocol.specs.Scrub.{zero_row, dirty_rows, some, program_rows, reread, scrub_chunk, scrub_to, scrub}
 use Rattle.protocol.proofs.Marks.{wipe_rows, wipe_inside}
@@ -183,12 +183,12 @@ module _ (Ph : Part → Part → Type 0) (F : List ℕ → Part → Type 0) (W :
         p i z
 
     rest : (N S : List ℕ) → S ≡ onto (non_zero_rows m at M) R → Wiped at (at + 16 * m) M N → (d : Bool) (p : Part) → F N p → p.registers.busy ≡ 0
-        → always Ph (if d then reread at (16 * m) else fine) Q μ S p
+        → always Ph (when d then reread at (16 * m) else fine) Q μ S p
     rest N S es w true p i z = rereads N S es w p i z
     rest N S es w false p i z = always_done Ph (ok tt) Q μ S p (rw es (post p N i w z))
 
     programs : (b : List ℕ) → Copy b at (16 * m) M → (p : Part) → F M p → p.registers.busy ≡ 0
-        → always Ph (try (program_rows at (dirty_rows 4 b)) (λ _. if some (dirty_rows 4 b) then reread at (16 * m) else fine)) Q μ R p
+        → always Ph (try (program_rows at (dirty_rows 4 b)) (λ _. when some (dirty_rows 4 b) then reread at (16 * m) else fine)) Q μ R p
     programs b c p i z =
         always_bind Ph (program_rows at (dirty_rows 4 b)) _ Q μ R p
         (program-rows Ph F W _ μ (dirty_rows 4 b) R M at row (omega arith)

@@ -13,7 +13,7 @@ use Rattle.slices.proofs.Cases.{pick_cases}
 use Rattle.protocol.specs.Transfer.{place}
 use Rattle.protocol.specs.Tag.{user_memory, user, rf_switch_on, rf_mngt_dyn, it_sts_dyn, wrote_bit}
 use Rattle.protocol.specs.Mark.{Mark, none, whole, found, is_none}
-use Rattle.protocol.specs.Proc.{Proc, mark, Res, ok, err, try, fine, if◌then◌else◌}
+use Rattle.protocol.specs.Proc.{Proc, mark, Res, ok, err, try, fine, when◌then◌else◌}
 use Rattle.protocol.specs.Bus.{read}
 use Rattle.protocol.specs.Rf.{rf_off, rf_on, rf_wrote}
 use Rattle.protocol.specs.Setup.{prepare}
@@ -114,11 +114,11 @@ unfolding finish
 finishes m R p k =
     always_bind Phone rf_off _ _ m R p
     (ends _ m m R (λ q M b l c s y.
-    always_bind Phone rf_wrote (λ wrote. if wrote then mark whole (closing whole (ok tt)) else closing m (ok tt)) (λ a n S x. Cleaned (ok tt) a n x) m R q
+    always_bind Phone rf_wrote (λ wrote. when wrote then mark whole (closing whole (ok tt)) else closing m (ok tt)) (λ a n S x. Cleaned (ok tt) a n x) m R q
     (asks _ m R M b (λ x o u. go b M l c x o u) q s y)) p k)
   where
     go : (b : Bool) (M : List ℕ) → length M ≡ 8192 → (b ≡ true) ⊎ Covered m M → (x : Part) → Off M x → x.registers.busy ≡ 0
-        → always Phone (if b then mark whole (closing whole (ok tt)) else closing m (ok tt)) (λ a n S x. Cleaned (ok tt) a n x) m R x
+        → always Phone (when b then mark whole (closing whole (ok tt)) else closing m (ok tt)) (λ a n S x. Cleaned (ok tt) a n x) m R x
     go true M l c x o u = always_mark Phone whole (closing whole (ok tt)) _ m R x (closes whole whole R M l (covered_whole M l) x o u)
     go false M l (inl e) x o u = absurd (let z : ◌≡◌ {A = ℕ} 0 1 = cc in omega arith)
     go false M l (inr c) x o u = closes m m R M l c x o u

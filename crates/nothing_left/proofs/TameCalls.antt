@@ -14,7 +14,7 @@ use Rattle.scan.specs.Zeros.{blank, alike}
 use Rattle.protocol.specs.Transfer.{write, write_read, delay, place}
 use Rattle.protocol.specs.Tag.{user, system, rf_switch_on, rf_switch_off, gpo1, rf_mngt, i2c_cfg, mem_size, i2c_pwd, rf_mngt_dyn, i2c_sso_dyn, id_length, i2c_cfg_value, rf_mngt_value, gpo1_value, password, system_write_ms, ready_polls, ready_poll_ms, rf_retry_ms, rf_tries, chunk, open_bit}
 use Rattle.protocol.specs.Mark.{Mark, none, widened, wipe_end}
-use Rattle.protocol.specs.Proc.{Proc, done, ask, Res, ok, err, try, fine, refuse, both, if◌then◌else◌}
+use Rattle.protocol.specs.Proc.{Proc, done, ask, Res, ok, err, try, fine, refuse, both, when◌then◌else◌}
 use Rattle.protocol.specs.Bus.{send, taken, read, read_byte, byte_is}
 use Rattle.protocol.specs.Wait.{poll, wait_ready}
 use Rattle.protocol.specs.Rf.{silent, «open», once, tries, rf_off, rf_on}
@@ -36,7 +36,7 @@ use Rattle.nothing_left.proofs.Steps.{Stable, phone_timeless, wait_ready_lem, de
 use Rattle.nothing_left.proofs.Wipes.{memory-look}
 use Rattle.nothing_left.proofs.Tames.{Gentle, Idle, Free, Tame, gpo, mngt, cfg, Proper, Harmless, proper_user, gentle_write, calm_write, gentle_read, calm_read, gentle_delay, calm-delay, tame_done, tame_ask, tame_bind, tame_try, tame_if, tame_mark}
 
-tame_end : (b : Bool) (e : TagError) → Tame (if b then fine else refuse e)
+tame_end : (b : Bool) (e : TagError) → Tame (when b then fine else refuse e)
 tame_end b e = tame_if b fine (refuse e) (tame_done (ok tt)) (tame_done (err e))
 
 -- one transfer and its reply
@@ -69,7 +69,7 @@ module _ (dev : ℕ) (head payload : List ℕ) (k : Proc (Res Unit)) where
   waited h most m R p z = λ q ph c. go (accepted dev (head ++ payload) q.registers) c q (phone_timeless p q ph ∙ z)
     where
       go : (b : Bool) (c : ℕ) (q : Part) → q.registers.busy ≡ 0
-          → always Phone (try (if b then fine else refuse NoAnswer) (λ _. k)) Free m (rows_on (write dev head payload) (record { ack = b; got = [] }) R)
+          → always Phone (try (when b then fine else refuse NoAnswer) (λ _. k)) Free m (rows_on (write dev head payload) (record { ack = b; got = [] }) R)
           (record {
             identity = q.identity;
             memory = pick b (stored (order_of dev (head ++ payload)) (drop 2 (head ++ payload)) q.memory) q.memory;
@@ -109,9 +109,9 @@ settling at value =
     ask (delay system_write_ms) (λ _.
     try (wait_ready ready_polls) (λ _.
     try (read_byte system at) (λ v.
-    if eqb v value then fine else refuse NotTaken)))
+    when eqb v value then fine else refuse NotTaken)))
 
-tame_settled : (at value : ℕ) → Harmless (look_of system (place at) 1) → Tame (try (read_byte system at) (λ v. if eqb v value then fine else refuse NotTaken))
+tame_settled : (at value : ℕ) → Harmless (look_of system (place at) 1) → Tame (try (read_byte system at) (λ v. when eqb v value then fine else refuse NotTaken))
 tame_settled at value g = tame_try (read_byte system at) _ (tame_byte system at g) (λ v. tame_end (eqb v value) NotTaken)
 
 tame_system : (at value : ℕ) → Proper (order_of system (place at ++ value ∷ [])) → Harmless (look_of system (place at) 1) → Tame (write_system at value)

@@ -17,7 +17,7 @@ use Rattle.slices.proofs.Cases.{pick_cases}
 use Rattle.protocol.specs.Transfer.{Transfer, write, write_read, delay, Reply, place_of}
 use Rattle.protocol.specs.Tag.{gpo1, rf_mngt, i2c_cfg, gpo1_value, rf_mngt_value, i2c_cfg_value, rf_mngt_dyn}
 use Rattle.protocol.specs.Mark.{Mark}
-use Rattle.protocol.specs.Proc.{Proc, done, ask, mark, ◌>>=◌, Res, ok, err, or_else, try, if◌then◌else◌}
+use Rattle.protocol.specs.Proc.{Proc, done, ask, mark, ◌>>=◌, Res, ok, err, or_else, try, when◌then◌else◌}
 use Rattle.protocol.specs.Bound.{Each}
 use Rattle.protocol.proofs.OneRows.{each_bind}
 use Rattle.part.specs.Part.{Part}
@@ -209,7 +209,7 @@ tame_try q f h g = tame_bind q (or_else f) h on
     on (ok a) = g a
     on (err e) = tame_done (err e)
 
-pub tame_if : {A : Type 0} (b : Bool) (q r : Proc A) → Tame q → Tame r → Tame (if b then q else r)
+pub tame_if : {A : Type 0} (b : Bool) (q r : Proc A) → Tame q → Tame r → Tame (when b then q else r)
 tame_if true q r h g = h
 tame_if false q r h g = g
 

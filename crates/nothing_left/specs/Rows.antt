@@ -12,13 +12,13 @@ use Rattle.protocol.specs.Transfer.{sent, is_row, place_of}
 use Rattle.protocol.specs.Tag.{user, user_memory}
 use Rattle.protocol.specs.Mark.{Mark, none, wipe_end}
 use Rattle.protocol.specs.Trace.{Exchange}
-use Rattle.protocol.specs.Proc.{if◌then◌else◌}
+use Rattle.protocol.specs.Proc.{when◌then◌else◌}
 use Rattle.protocol.specs.declared.answer.Answer.TheVariants.{Done}
 use Rattle.part.specs.Part.{Part}
 use Rattle.nothing_left.specs.Runs.{Outcome}
 
 abbrev pub row_at : Exchange → List ℕ
-row_at e = if is_row user user_memory e.transfer && e.reply.ack then place_of (sent e.transfer) ∷ [] else []
+row_at e = when is_row user user_memory e.transfer && e.reply.ack then place_of (sent e.transfer) ∷ [] else []
 
 abbrev pub programmed : List Exchange → List ℕ
 programmed [] = []
@@ -26,7 +26,7 @@ programmed (e ∷ es) = row_at e ++ programmed es
 
 abbrev pub non_zero_rows : ℕ → ℕ → List ℕ → List ℕ
 non_zero_rows zero at bs = []
-non_zero_rows (suc n) at bs = (if blank (take row (drop at bs)) then [] else at ∷ []) ++ non_zero_rows n (at + row) bs
+non_zero_rows (suc n) at bs = (when blank (take row (drop at bs)) then [] else at ∷ []) ++ non_zero_rows n (at + row) bs
 
 pub record Exact (m : Mark) (p : Part) (o : Outcome) : Type 0 where
   pub answer : o.end.answer ≡ Done

@@ -20,7 +20,7 @@ use Rattle.std.specs.Prelude.{ℕ, min, List, true, eqb, length}
 use Rattle.scan.specs.Rows.{row_count}
 use Rattle.protocol.specs.Tag.{user_memory, user, system, i2c_cfg, chunk}
 use Rattle.protocol.specs.Mark.{Mark, none, whole, found, is_none, wipe_end}
-use Rattle.protocol.specs.Proc.{Proc, done, mark, ◌>>=◌, Res, try, fine, refuse, if◌then◌else◌}
+use Rattle.protocol.specs.Proc.{Proc, done, mark, ◌>>=◌, Res, try, fine, refuse, when◌then◌else◌}
 use Rattle.protocol.specs.Bus.{read, read_byte}
 use Rattle.protocol.specs.Rf.{rf_off, rf_on, rf_wrote}
 use Rattle.protocol.specs.Setup.{identify, set_up, prepare}
@@ -55,9 +55,9 @@ closing_by wipe m off = wipe m >>= λ wiped. done (first_of off wiped)
 abbrev pub wiping : Proc (Res Unit) → (Mark → Proc (Res Unit)) → Program
 wiping prep wipe =
     calls_by prep write_user read_whole wipe
-    (λ m. try prep (λ _. try rf_off (λ _. if is_none m then fine else wipe m)))
+    (λ m. try prep (λ _. try rf_off (λ _. when is_none m then fine else wipe m)))
     go_live
-    (λ m. rf_off >>= λ off. rf_wrote >>= λ wrote. if wrote then mark whole (closing_by wipe whole off) else closing_by wipe m off)
+    (λ m. rf_off >>= λ off. rf_wrote >>= λ wrote. when wrote then mark whole (closing_by wipe whole off) else closing_by wipe m off)
 
 abbrev pub refuses_everything : Program
 refuses_everything c m = done (Not Refused)
@@ -75,7 +75,7 @@ abbrev pub wipes_to_mark : Program
 wipes_to_mark = calls_by prepare write_user read_whole (λ m. try (scrub_to (chunks m) 0 m) (λ _. mark none fine)) begin go_live finish
 
 abbrev pub begin_early : Program
-begin_early = calls_by prepare write_user read_whole scrub (λ m. try prepare (λ _. try (if is_none m then fine else scrub m) (λ _. rf_off))) go_live finish
+begin_early = calls_by prepare write_user read_whole scrub (λ m. try prepare (λ _. try (when is_none m then fine else scrub m) (λ _. rf_off))) go_live finish
 
 abbrev pub goes_live_late : Program
 goes_live_late = calls_by prepare write_user read_whole scrub begin (rf_on >>= λ on. rf_wrote >>= λ _. done on) finish
@@ -86,19 +86,19 @@ finish_trusts = calls_by prepare write_user read_whole scrub begin go_live (λ m
 abbrev pub finish_asks_early : Program
 finish_asks_early =
     calls_by prepare write_user read_whole scrub begin go_live
-    (λ m. rf_wrote >>= λ wrote. rf_off >>= λ off. if wrote then mark whole (closing whole off) else closing m off)
+    (λ m. rf_wrote >>= λ wrote. rf_off >>= λ off. when wrote then mark whole (closing whole off) else closing m off)
 
 abbrev pub write_forgets : Program
 write_forgets =
     calls_by prepare
-    (λ m at bs. if past at (length bs) then refuse NotTaken else
+    (λ m at bs. when past at (length bs) then refuse NotTaken else
     try (program (row_count at (length bs)) at bs) (λ _. read_back (chunks (length bs)) at bs true))
     read_whole scrub begin go_live finish
 
 abbrev pub reads_early : Program
 reads_early =
     calls_by prepare write_user
-    (λ m n. if eqb n user_memory then
+    (λ m n. when eqb n user_memory then
     try (read user 0 user_memory) (λ out. try rf_off (λ _. rf_wrote >>= λ _. mark (found out) fine))
     else refuse NotTaken)
     scrub begin go_live finish

@@ -15,14 +15,14 @@
 use Rattle.std.specs.Prelude.{Bool, true, false, ◌&&◌, List, [], ◌∷◌, ℕ, ◌+◌, eqb, leb, length, take, drop}
 use Rattle.protocol.specs.Transfer.{place_of}
 use Rattle.protocol.specs.Tag.{user_memory, user, system, gpo1, rf_mngt, i2c_cfg, mem_size, rf_mngt_dyn, i2c_sso_dyn, it_sts_dyn, id_length}
-use Rattle.protocol.specs.Proc.{if◌then◌else◌}
+use Rattle.protocol.specs.Proc.{when◌then◌else◌}
 use Rattle.part.specs.Part.{byte_at, free, with_reported}
 use Rattle.part.specs.declared.look.Look.{Look}
 use Rattle.part.specs.declared.look.Look.TheVariants.{Memory, Dynamic, Session, Status, Byte, Identity, Unknown}
 use Rattle.part.specs.declared.registers.Registers.{Registers}
 
 abbrev pub among : ℕ → ℕ → Look → ℕ → Look → ℕ → Look → Look
-among at a x b y c z = if eqb at a then x else if eqb at b then y else if eqb at c then z else Unknown
+among at a x b y c z = when eqb at a then x else when eqb at b then y else when eqb at c then z else Unknown
 
 -- a dynamic register, by its address
 abbrev pub dynamic_at : ℕ → Look
@@ -33,14 +33,14 @@ abbrev pub system_at : ℕ → Look
 system_at at = among at gpo1 (Byte gpo1) rf_mngt (Byte rf_mngt) i2c_cfg (Byte i2c_cfg)
 
 abbrev pub user_look : ℕ → ℕ → Look
-user_look at n = if leb (at + n) user_memory then Memory at else if eqb n 1 then dynamic_at at else Unknown
+user_look at n = when leb (at + n) user_memory then Memory at else when eqb n 1 then dynamic_at at else Unknown
 
 abbrev pub system_look : ℕ → ℕ → Look
-system_look at n = if eqb n 1 then system_at at else if eqb at mem_size && eqb n id_length then Identity else Unknown
+system_look at n = when eqb n 1 then system_at at else when eqb at mem_size && eqb n id_length then Identity else Unknown
 
 unfoldable pub look_of : ℕ → List ℕ → ℕ → Look
 look_of dev head n =
-    if eqb (length head) 2 then (if eqb dev user then user_look (place_of head) n else if eqb dev system then system_look (place_of head) n else Unknown)
+    when eqb (length head) 2 then (when eqb dev user then user_look (place_of head) n else when eqb dev system then system_look (place_of head) n else Unknown)
     else Unknown
 
 abbrev pub known : Look → Bool
@@ -57,7 +57,7 @@ answered dev head n r = free r && known (look_of dev head n)
 
 -- a bit of a register
 abbrev pub bit : Bool → ℕ → ℕ
-bit b v = if b then v else 0
+bit b v = when b then v else 0
 
 abbrev pub shown : Look → ℕ → List ℕ → List ℕ → Registers → List ℕ
 shown (Memory at) n identity memory r = take n (drop at memory)
@@ -78,7 +78,7 @@ looked Identity r = r
 looked Unknown r = r
 
 abbrev pub bytes_read : ℕ → List ℕ → ℕ → List ℕ → List ℕ → Registers → List ℕ
-bytes_read dev head n identity memory r = if answered dev head n r then shown (look_of dev head n) n identity memory r else []
+bytes_read dev head n identity memory r = when answered dev head n r then shown (look_of dev head n) n identity memory r else []
 
 abbrev pub registers_read : ℕ → List ℕ → ℕ → Registers → Registers
-registers_read dev head n r = if answered dev head n r then looked (look_of dev head n) r else r
+registers_read dev head n r = when answered dev head n r then looked (look_of dev head n) r else r

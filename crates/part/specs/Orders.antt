@@ -17,7 +17,7 @@ use Rattle.scan.specs.Rows.{row}
 use Rattle.scan.specs.Zeros.{alike}
 use Rattle.protocol.specs.Transfer.{place_of}
 use Rattle.protocol.specs.Tag.{user_memory, user, system, rf_switch_on, rf_switch_off, i2c_pwd, rf_mngt_dyn, password}
-use Rattle.protocol.specs.Proc.{if◌then◌else◌}
+use Rattle.protocol.specs.Proc.{when◌then◌else◌}
 use Rattle.part.specs.Part.{byte_at, fits, switches, free, with_rf, with_session, with_cycle, with_byte}
 use Rattle.part.specs.declared.order.Order.{Order}
 use Rattle.part.specs.declared.order.Order.TheVariants.{Poll, Row, Dynamic, Password, Byte, SwitchOn, SwitchOff, Unknown}
@@ -26,26 +26,26 @@ use Rattle.part.specs.declared.registers.Registers.{Registers}
 
 abbrev pub user_order : List ℕ → Order
 user_order sent =
-    if eqb (length sent) 0 then Poll
-    else if eqb (place_of sent) rf_mngt_dyn && eqb (length sent) 3 then Dynamic (get_or sent 2 0)
+    when eqb (length sent) 0 then Poll
+    else when eqb (place_of sent) rf_mngt_dyn && eqb (length sent) 3 then Dynamic (get_or sent 2 0)
     else Row (place_of sent)
 
 abbrev pub system_order : List ℕ → Order
 system_order sent =
-    if eqb (place_of sent) i2c_pwd && alike (drop 2 sent) password then Password
-    else if eqb (length sent) 3 then Byte (place_of sent) (get_or sent 2 0)
+    when eqb (place_of sent) i2c_pwd && alike (drop 2 sent) password then Password
+    else when eqb (length sent) 3 then Byte (place_of sent) (get_or sent 2 0)
     else Unknown
 
 -- an address that is sent alone
 abbrev pub bare : List ℕ → Order → Order
-bare sent o = if eqb (length sent) 0 then o else Unknown
+bare sent o = when eqb (length sent) 0 then o else Unknown
 
 unfoldable pub order_of : ℕ → List ℕ → Order
 order_of dev sent =
-    if eqb dev user then user_order sent
-    else if eqb dev system then system_order sent
-    else if eqb dev rf_switch_on then bare sent SwitchOn
-    else if eqb dev rf_switch_off then bare sent SwitchOff
+    when eqb dev user then user_order sent
+    else when eqb dev system then system_order sent
+    else when eqb dev rf_switch_on then bare sent SwitchOn
+    else when eqb dev rf_switch_off then bare sent SwitchOff
     else Unknown
 
 abbrev pub in_row : ℕ → ℕ → Bool
@@ -85,7 +85,7 @@ stored SwitchOff payload memory = memory
 stored Unknown payload memory = memory
 
 abbrev pub registers_written : ℕ → List ℕ → ℕ → Registers → Registers
-registers_written dev sent ms r = if accepted dev sent r then ordered (order_of dev sent) (length sent - 2) ms r else r
+registers_written dev sent ms r = when accepted dev sent r then ordered (order_of dev sent) (length sent - 2) ms r else r
 
 abbrev pub memory_written : ℕ → List ℕ → Registers → List ℕ → List ℕ
-memory_written dev sent r memory = if accepted dev sent r then stored (order_of dev sent) (drop 2 sent) memory else memory
+memory_written dev sent r memory = when accepted dev sent r then stored (order_of dev sent) (drop 2 sent) memory else memory

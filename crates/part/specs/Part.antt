@@ -17,7 +17,7 @@
 --   ThePart p          == p is the part that document 01 describes, in any state of its dynamic registers
 use Rattle.std.specs.Prelude.{◌≡◌, Bool, true, false, List, ℕ, ◌+◌, ◌*◌, ◌/◌, ◌%◌, ◌≤◌, min, eqb, ltb, length, get_or}
 use Rattle.protocol.specs.Tag.{user_memory, gpo1, rf_mngt, i2c_cfg, id_length, i2c_cfg_value, uid_prefix}
-use Rattle.protocol.specs.Proc.{if◌then◌else◌}
+use Rattle.protocol.specs.Proc.{when◌then◌else◌}
 use Rattle.part.specs.declared.registers.Cycle.{Cycle}
 use Rattle.part.specs.declared.registers.Cycle.TheVariants.{Nothing, Row, Byte}
 use Rattle.part.specs.declared.registers.Registers.{Registers}
@@ -31,13 +31,13 @@ abbrev pub longest : ℕ
 longest = 99
 
 abbrev pub byte_at : ℕ → Registers → ℕ
-byte_at at r = if eqb at gpo1 then r.gpo1 else if eqb at rf_mngt then r.mngt else r.cfg
+byte_at at r = when eqb at gpo1 then r.gpo1 else when eqb at rf_mngt then r.mngt else r.cfg
 
 abbrev pub fits : ℕ → ℕ → Bool
 fits at v =
-    if eqb at gpo1 then true
-    else if eqb at rf_mngt then ltb v 4
-    else if eqb at i2c_cfg then (if eqb v 0x1A then true else eqb v i2c_cfg_value)
+    when eqb at gpo1 then true
+    else when eqb at rf_mngt then ltb v 4
+    else when eqb at i2c_cfg then (when eqb v 0x1A then true else eqb v i2c_cfg_value)
     else false
 
 abbrev pub rf_on : Registers → Bool
@@ -67,8 +67,8 @@ with_cycle ms k r = record { gpo1 = r.gpo1; mngt = r.mngt; cfg = r.cfg; rf = r.r
 
 abbrev pub with_byte : ℕ → ℕ → Registers → Registers
 with_byte at v r =
-    if eqb at gpo1 then record { gpo1 = v; mngt = r.mngt; cfg = r.cfg; rf = r.rf; session = r.session; reported = r.reported; busy = r.busy; cycle = r.cycle }
-    else if eqb at rf_mngt then record { gpo1 = r.gpo1; mngt = v; cfg = r.cfg; rf = r.rf; session = r.session; reported = r.reported; busy = r.busy; cycle = r.cycle }
+    when eqb at gpo1 then record { gpo1 = v; mngt = r.mngt; cfg = r.cfg; rf = r.rf; session = r.session; reported = r.reported; busy = r.busy; cycle = r.cycle }
+    else when eqb at rf_mngt then record { gpo1 = r.gpo1; mngt = v; cfg = r.cfg; rf = r.rf; session = r.session; reported = r.reported; busy = r.busy; cycle = r.cycle }
     else record { gpo1 = r.gpo1; mngt = r.mngt; cfg = v; rf = r.rf; session = r.session; reported = r.reported; busy = r.busy; cycle = r.cycle }
 
 -- what a running cycle replaces is such a value too, and a row lies inside the memory

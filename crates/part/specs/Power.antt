@@ -18,7 +18,7 @@ use Rattle.std.specs.Prelude.{Bool, true, false, ◌&&◌, List, ℕ, ◌+◌, l
 use Rattle.slices.specs.Bytes.{splice}
 use Rattle.protocol.specs.Tag.{user_memory}
 use Rattle.protocol.specs.Setup.{reports}
-use Rattle.protocol.specs.Proc.{if◌then◌else◌}
+use Rattle.protocol.specs.Proc.{when◌then◌else◌}
 use Rattle.part.specs.Part.{Part, rf_on, free, with_byte, with_reported}
 use Rattle.part.specs.declared.registers.Cycle.{Cycle}
 use Rattle.part.specs.declared.registers.Cycle.TheVariants.{Nothing, Row, Byte}
@@ -33,10 +33,10 @@ abbrev pub reached : ℕ → ℕ → Registers → Bool
 reached at n r = rf_on r && leb (at + n) user_memory
 
 abbrev pub registers_visited : ℕ → ℕ → Registers → Registers
-registers_visited at n r = if reached at n r then with_reported (if reports r.gpo1 then true else r.reported) r else r
+registers_visited at n r = when reached at n r then with_reported (when reports r.gpo1 then true else r.reported) r else r
 
 abbrev pub memory_visited : ℕ → List ℕ → Registers → List ℕ → List ℕ
-memory_visited at bs r memory = if reached at (length bs) r then splice memory at bs else memory
+memory_visited at bs r memory = when reached at (length bs) r then splice memory at bs else memory
 
 abbrev pub visited : Visit → Part → Part
 visited still p = p
@@ -57,19 +57,19 @@ powered r = record { gpo1 = r.gpo1; mngt = r.mngt; cfg = r.cfg; rf = r.mngt; ses
 abbrev pub torn_byte : Cycle → Bool → Registers → Registers
 torn_byte Nothing old r = r
 torn_byte (Row at n) old r = r
-torn_byte (Byte at v) old r = if old then with_byte at v r else r
+torn_byte (Byte at v) old r = when old then with_byte at v r else r
 
 -- the memory after a cut inside it
 abbrev pub torn_row : Cycle → List ℕ → List ℕ → List ℕ
 torn_row Nothing bs memory = memory
-torn_row (Row at n) bs memory = if leb (at + n) user_memory then splice memory at (take n bs) else memory
+torn_row (Row at n) bs memory = when leb (at + n) user_memory then splice memory at (take n bs) else memory
 torn_row (Byte at v) bs memory = memory
 
 abbrev pub registers_cut : Bool → Registers → Registers
-registers_cut old r = powered (if free r then r else torn_byte r.cycle old r)
+registers_cut old r = powered (when free r then r else torn_byte r.cycle old r)
 
 abbrev pub memory_cut : List ℕ → Registers → List ℕ → List ℕ
-memory_cut bs r memory = if free r then memory else torn_row r.cycle bs memory
+memory_cut bs r memory = when free r then memory else torn_row r.cycle bs memory
 
 abbrev pub cut : Torn → Part → Part
 cut l p = record {

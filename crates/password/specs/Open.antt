@@ -9,7 +9,7 @@
 use Rattle.std.specs.Prelude.{ℕ, Bool}
 use Rattle.slices.specs.Pick.{pick}
 use Rattle.protocol.specs.Tag.{user, i2c_sso_dyn, open_bit}
-use Rattle.protocol.specs.Proc.{Proc, Res, try, fine, refuse, if◌then◌else◌}
+use Rattle.protocol.specs.Proc.{Proc, Res, try, fine, refuse, when◌then◌else◌}
 use Rattle.protocol.specs.Bus.{read_byte}
 use Rattle.protocol.specs.Setup.{open_session}
 use Rattle.protocol.specs.declared.answer.TagError.TheVariants.{NoAnswer, Refused}
@@ -46,7 +46,7 @@ open_step (Wait w) ack v = open_waited (wait_step w ack)
 open_step Look ack v = open_looked ack v
 
 abbrev pub open_look : Proc (Res Unit)
-open_look = try (read_byte user i2c_sso_dyn) (λ v. if open_bit v then fine else refuse Refused)
+open_look = try (read_byte user i2c_sso_dyn) (λ v. when open_bit v then fine else refuse Refused)
 
 abbrev pub resume_open : Open → Proc (Res Unit)
 resume_open Present = open_session

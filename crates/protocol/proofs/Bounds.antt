@@ -9,7 +9,7 @@ use Rattle.scan.specs.Zeros.{blank}
 use Rattle.protocol.specs.Transfer.{busy, delay, place}
 use Rattle.protocol.specs.Tag.{chunk, user, ready_poll_ms}
 use Rattle.protocol.specs.Mark.{Mark, none, wipe_end}
-use Rattle.protocol.specs.Proc.{Proc, done, ask, mark, ◌>>=◌, Res, ok, err, or_else, try, fine, if◌then◌else◌}
+use Rattle.protocol.specs.Proc.{Proc, done, ask, mark, ◌>>=◌, Res, ok, err, or_else, try, fine, when◌then◌else◌}
 use Rattle.protocol.specs.Bus.{send, read}
 use Rattle.protocol.specs.Wait.{wait_ready}
 use Rattle.protocol.specs.Write.{program_row, chunks}
@@ -54,7 +54,7 @@ unfolding AtMost
 most_mark n m p h = h
 
 -- an answer on both sides of a test costs nothing
-most_if : {A : Type 0} (b : Bool) (x y : A) → AtMost 0 (if b then done x else done y)
+most_if : {A : Type 0} (b : Bool) (x y : A) → AtMost 0 (when b then done x else done y)
 unfolding AtMost
 most_if true x y = tt
 most_if false x y = tt
@@ -70,9 +70,9 @@ most_read dev at n = (omega arith, λ r. most_if r.ack _ _)
 most_wait : (n : ℕ) → AtMost n (wait_ready n)
 unfolding AtMost
 most_wait zero = tt
-most_wait (suc n) = (omega arith, λ r. subst (λ (j : ℕ). AtMost j (if r.ack then fine else ask (delay ready_poll_ms) (λ _. wait_ready n))) (omega arith) (polled r.ack (most_wait n)))
+most_wait (suc n) = (omega arith, λ r. subst (λ (j : ℕ). AtMost j (when r.ack then fine else ask (delay ready_poll_ms) (λ _. wait_ready n))) (omega arith) (polled r.ack (most_wait n)))
   where
-    polled : (b : Bool) → AtMost n (wait_ready n) → AtMost n (if b then fine else ask (delay ready_poll_ms) (λ _. wait_ready n))
+    polled : (b : Bool) → AtMost n (wait_ready n) → AtMost n (when b then fine else ask (delay ready_poll_ms) (λ _. wait_ready n))
     polled true w = tt
     polled false w = (omega arith, λ _. subst (λ (j : ℕ). AtMost j (wait_ready n)) (omega arith) w)
 
@@ -94,7 +94,7 @@ most_chunk at n =
     most_try 1 405 _ _ (most_read user at n) (λ bs.
     most_try 404 1 _ _ (most_rows (dirty_rows 4 bs) at) (λ _. again (some (dirty_rows 4 bs))))
   where
-    again : (b : Bool) → AtMost 1 (if b then reread at n else fine)
+    again : (b : Bool) → AtMost 1 (when b then reread at n else fine)
     again true = most_reread at n
     again false = most_done 1 (ok tt)
 

@@ -11,7 +11,7 @@ use Rattle.scan.proofs.Cutting.{row_room}
 use Rattle.protocol.specs.Transfer.{Transfer, write, delay, place, is_row}
 use Rattle.protocol.specs.Tag.{user_memory, user, system, rf_switch_on, rf_switch_off, gpo1, rf_mngt, i2c_cfg, mem_size, i2c_pwd, rf_mngt_dyn, i2c_sso_dyn, id_length, i2c_cfg_value, rf_mngt_value, gpo1_value, password, system_write_ms, ready_polls, rf_retry_ms, chunk, open_bit}
 use Rattle.protocol.specs.Mark.{Mark, none, whole, widened, found, wipe_end, is_none}
-use Rattle.protocol.specs.Proc.{Proc, done, ask, mark, ◌>>=◌, Res, ok, err, or_else, try, fine, refuse, both, if◌then◌else◌}
+use Rattle.protocol.specs.Proc.{Proc, done, ask, mark, ◌>>=◌, Res, ok, err, or_else, try, fine, refuse, both, when◌then◌else◌}
 use Rattle.protocol.specs.Bus.{send, taken, read, read_byte, byte_is}
 use Rattle.protocol.specs.Wait.{wait_ready}
 use Rattle.protocol.specs.Rf.{silent, «open», once, tries, rf_off, rf_on, rf_wrote}
@@ -49,7 +49,7 @@ each_try P p f h g = each_bind P p (or_else f) h on
     on (ok a) = g a
     on (err e) = tt
 
-pub each_if : {A : Type 0} (P : Transfer → Type 0) (b : Bool) (p q : Proc A) → Each P p → Each P q → Each P (if b then p else q)
+pub each_if : {A : Type 0} (P : Transfer → Type 0) (b : Bool) (p q : Proc A) → Each P p → Each P q → Each P (when b then p else q)
 each_if P true p q h g = h
 each_if P false p q h g = g
 
@@ -66,7 +66,7 @@ unfolding Each OneRow
 each_delay ms p h = (tt, λ _. h)
 
 -- Ok(()) or a refusal, by a test
-each_end : (b : Bool) (e : TagError) → Each OneRow (if b then fine else refuse e)
+each_end : (b : Bool) (e : TagError) → Each OneRow (when b then fine else refuse e)
 unfolding Each
 each_end true e = tt
 each_end false e = tt

@@ -13,7 +13,7 @@
 use Rattle.std.specs.Prelude.{ℕ, eqb}
 use Rattle.protocol.specs.Tag.{user_memory, user, ready_polls}
 use Rattle.protocol.specs.Mark.{Mark, whole, found, is_none}
-use Rattle.protocol.specs.Proc.{Proc, done, mark, ◌>>=◌, Res, ok, err, try, fine, refuse, if◌then◌else◌}
+use Rattle.protocol.specs.Proc.{Proc, done, mark, ◌>>=◌, Res, ok, err, try, fine, refuse, when◌then◌else◌}
 use Rattle.protocol.specs.Bus.{read}
 use Rattle.protocol.specs.Wait.{wait_ready}
 use Rattle.protocol.specs.Rf.{rf_off, rf_on, rf_wrote}
@@ -28,7 +28,7 @@ use Rattle.protocol.specs.declared.answer.Answer.TheVariants.{Done, Wrote, Not}
 
 unfoldable pub read_whole : Mark → ℕ → Proc (Res Unit)
 read_whole m n =
-    if eqb n user_memory then
+    when eqb n user_memory then
     try rf_off (λ _.
     rf_wrote >>= λ _.
     try (read user 0 user_memory) (λ out.
@@ -39,7 +39,7 @@ unfoldable pub begin : Mark → Proc (Res Unit)
 begin m =
     try setup.prepare (λ _.
     try rf_off (λ _.
-    if is_none m then fine else s.scrub m))
+    when is_none m then fine else s.scrub m))
 
 unfoldable pub go_live : Proc (Res Unit)
 go_live = rf_wrote >>= λ _. rf_on
@@ -55,7 +55,7 @@ unfoldable pub finish : Mark → Proc (Res Unit)
 finish m =
     rf_off >>= λ off.
     rf_wrote >>= λ wrote.
-    if wrote then mark whole (closing whole off) else closing m off
+    when wrote then mark whole (closing whole off) else closing m off
 
 abbrev pub plain : Res Unit → Answer
 plain (ok a) = Done

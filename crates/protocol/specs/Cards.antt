@@ -4,7 +4,7 @@
 --   row_sizes es   == the lengths of the data of each row write
 --   Cards         == the cards, each as what the definitions compute; `cards` (proofs/Theorems) proves it
 use Rattle.std.specs.Prelude.{ℕ, ◌≡◌, List, [], ◌∷◌, ◌++◌, Bool, true, length, replicate}
-use Rattle.protocol.specs.Proc.{if◌then◌else◌}
+use Rattle.protocol.specs.Proc.{when◌then◌else◌}
 use Rattle.protocol.specs.Transfer.{Transfer, write, write_read, delay, is_row}
 use Rattle.protocol.specs.Tag.{user, user_memory}
 use Rattle.protocol.specs.Mark.{wipe_end, none}
@@ -15,7 +15,7 @@ abbrev pub obliging : Replies
 obliging n = record { ack = true; got = [] }
 
 abbrev size_if : Bool → Transfer → List ℕ
-size_if b (write dev head payload) = if b then length payload ∷ [] else []
+size_if b (write dev head payload) = when b then length payload ∷ [] else []
 size_if b (write_read dev head n) = []
 size_if b (delay ms) = []
 

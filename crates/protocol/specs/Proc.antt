@@ -7,7 +7,7 @@
 --   Res A             == `Result<A, TagError>`
 --   or_else f r        == what f makes of the value that r holds; a refusal stays one
 --   try p f           == p?, then f: a refusal ends it
---   if b then x else y == x where b holds, else y
+--   when b then x else y == x where b holds, else y
 --   unless b p        == nothing where b holds, else p
 --   both p q          == p && q: q only where p says yes
 --   fine, refuse e    == Ok(()), Err(e)
@@ -39,9 +39,9 @@ or_else f (err e) = done (err e)
 abbrev pub try : {A B : Type 0} → Proc (Res A) → (A → Proc (Res B)) → Proc (Res B)
 try p f = p >>= or_else f
 
-infix 10 if◌then◌else◌
-abbrev pub if◌then◌else◌ : {A : Type 0} → Bool → A → A → A
-if◌then◌else◌ b x y = pick b x y
+infix 10 when◌then◌else◌
+abbrev pub when◌then◌else◌ : {A : Type 0} → Bool → A → A → A
+when◌then◌else◌ b x y = pick b x y
 
 abbrev pub fine : Proc (Res Unit)
 fine = done (ok tt)
@@ -50,7 +50,7 @@ abbrev pub refuse : {A : Type 0} → TagError → Proc (Res A)
 refuse e = done (err e)
 
 abbrev pub unless : Bool → Proc (Res Unit) → Proc (Res Unit)
-unless b p = if b then fine else p
+unless b p = when b then fine else p
 
 abbrev pub both : Proc Bool → Proc Bool → Proc Bool
-both p q = p >>= λ yes?. if yes? then q else done false
+both p q = p >>= λ yes?. when yes? then q else done false

@@ -9,7 +9,7 @@
 use Rattle.std.specs.Prelude.{ℕ, zero, suc, [], ◌∷◌, Bool, true, false, eqb, get_or}
 use Rattle.protocol.specs.Transfer.{write_read, delay, place}
 use Rattle.protocol.specs.Tag.{user, rf_switch_on, rf_switch_off, rf_mngt_dyn, it_sts_dyn, rf_tries, rf_retry_ms, off_bit, wrote_bit}
-use Rattle.protocol.specs.Proc.{Proc, done, ask, ◌>>=◌, Res, fine, refuse, both, if◌then◌else◌}
+use Rattle.protocol.specs.Proc.{Proc, done, ask, ◌>>=◌, Res, fine, refuse, both, when◌then◌else◌}
 use Rattle.protocol.specs.Bus.{taken, byte_is}
 use Rattle.protocol.specs.declared.answer.TagError.TheVariants.{RfStuck}
 
@@ -26,11 +26,11 @@ abbrev pub on_once : Proc Bool
 on_once = both (taken rf_switch_on [] []) (both (taken user (place rf_mngt_dyn) (0x00 ∷ [])) (byte_is user rf_mngt_dyn «open»))
 
 abbrev pub once : Bool → Proc Bool
-once on = if on then on_once else off_once
+once on = when on then on_once else off_once
 
 abbrev pub tries : Bool → ℕ → Proc (Res Unit)
 tries on zero = refuse RfStuck
-tries on (suc n) = once on >>= λ yes?. if yes? then fine else ask (delay rf_retry_ms) (λ _. tries on n)
+tries on (suc n) = once on >>= λ yes?. when yes? then fine else ask (delay rf_retry_ms) (λ _. tries on n)
 
 unfoldable pub rf_off : Proc (Res Unit)
 rf_off = tries false rf_tries
@@ -39,4 +39,4 @@ unfoldable pub rf_on : Proc (Res Unit)
 rf_on = tries true rf_tries
 
 abbrev pub rf_wrote : Proc Bool
-rf_wrote = ask (write_read user (place it_sts_dyn) 1) (λ r. done (if r.ack then wrote_bit (get_or r.got 0 0) else true))
+rf_wrote = ask (write_read user (place it_sts_dyn) 1) (λ r. done (when r.ack then wrote_bit (get_or r.got 0 0) else true))

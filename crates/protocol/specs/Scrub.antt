@@ -13,7 +13,7 @@ use Rattle.scan.specs.Rows.{row}
 use Rattle.scan.specs.Zeros.{blank}
 use Rattle.protocol.specs.Tag.{user, chunk}
 use Rattle.protocol.specs.Mark.{Mark, none, wipe_end}
-use Rattle.protocol.specs.Proc.{Proc, mark, Res, try, fine, refuse, if◌then◌else◌}
+use Rattle.protocol.specs.Proc.{Proc, mark, Res, try, fine, refuse, when◌then◌else◌}
 use Rattle.protocol.specs.Bus.{read}
 use Rattle.protocol.specs.Write.{program_row, chunks}
 use Rattle.protocol.specs.declared.answer.TagError.TheVariants.{NotTaken}
@@ -27,7 +27,7 @@ dirty_rows (suc k) bs = not (blank (take row bs)) ∷ dirty_rows k (drop row bs)
 
 abbrev pub some : List Bool → Bool
 some [] = false
-some (b ∷ bits) = if b then true else some bits
+some (b ∷ bits) = when b then true else some bits
 
 abbrev pub program_rows : ℕ → List Bool → Proc (Res Unit)
 program_rows at [] = fine
@@ -35,13 +35,13 @@ program_rows at (true ∷ bits) = try (program_row at zero_row) (λ _. program_r
 program_rows at (false ∷ bits) = program_rows (at + row) bits
 
 abbrev pub reread : ℕ → ℕ → Proc (Res Unit)
-reread at n = try (read user at n) (λ bs. if blank bs then fine else refuse NotTaken)
+reread at n = try (read user at n) (λ bs. when blank bs then fine else refuse NotTaken)
 
 abbrev pub scrub_chunk : ℕ → ℕ → Proc (Res Unit)
 scrub_chunk at n =
     try (read user at n) (λ bs.
     try (program_rows at (dirty_rows 4 bs)) (λ _.
-    if some (dirty_rows 4 bs) then reread at n else fine))
+    when some (dirty_rows 4 bs) then reread at n else fine))
 
 abbrev pub scrub_to : ℕ → ℕ → ℕ → Proc (Res Unit)
 scrub_to zero at end = fine

@@ -12,7 +12,7 @@
 use Rattle.std.specs.Prelude.{ℕ, ◌+◌, ◌*◌, List, [], ◌∷◌, Bool, ◌&&◌, eqb, get_or}
 use Rattle.protocol.specs.Transfer.{place}
 use Rattle.protocol.specs.Tag.{user_memory, user, system, gpo1, rf_mngt, i2c_cfg, mem_size, i2c_pwd, i2c_sso_dyn, id_length, i2c_cfg_value, rf_mngt_value, gpo1_value, uid_prefix, password, system_write_ms, ready_polls, open_bit}
-use Rattle.protocol.specs.Proc.{Proc, Res, try, fine, refuse, unless, if◌then◌else◌}
+use Rattle.protocol.specs.Proc.{Proc, Res, try, fine, refuse, unless, when◌then◌else◌}
 use Rattle.protocol.specs.Bus.{send, read, read_byte, pause}
 use Rattle.protocol.specs.Wait.{wait_ready}
 use Rattle.protocol.specs.declared.answer.TagError.TheVariants.{NotThePart, Refused, NotTaken}
@@ -21,14 +21,14 @@ abbrev pub is_the_part : List ℕ → Bool
 is_the_part id = eqb (get_or id 11 0) uid_prefix && eqb ((get_or id 0 0 + 256 * get_or id 1 0 + 1) * 4) user_memory
 
 abbrev pub identify : Proc (Res Unit)
-identify = try (read system mem_size id_length) (λ id. if is_the_part id then fine else refuse NotThePart)
+identify = try (read system mem_size id_length) (λ id. when is_the_part id then fine else refuse NotThePart)
 
 abbrev pub open_session : Proc (Res Unit)
 open_session =
     try (send system (place i2c_pwd) password) (λ _.
     try (wait_ready ready_polls) (λ _.
     try (read_byte user i2c_sso_dyn) (λ v.
-    if open_bit v then fine else refuse Refused)))
+    when open_bit v then fine else refuse Refused)))
 
 abbrev pub write_system : ℕ → ℕ → Proc (Res Unit)
 write_system at value =
@@ -36,7 +36,7 @@ write_system at value =
     try (pause system_write_ms) (λ _.
     try (wait_ready ready_polls) (λ _.
     try (read_byte system at) (λ v.
-    if eqb v value then fine else refuse NotTaken))))
+    when eqb v value then fine else refuse NotTaken))))
 
 abbrev pub is_set_up : ℕ → Bool
 is_set_up cfg = eqb cfg i2c_cfg_value

@@ -24,7 +24,7 @@ use Rattle.std.specs.Prelude.{ℕ, zero, suc, ◌+◌, List, [], ◌∷◌, ◌&
 use Rattle.protocol.specs.Transfer.{Transfer, Reply, busy, is_row}
 use Rattle.protocol.specs.Tag.{user, user_memory}
 use Rattle.protocol.specs.Mark.{Mark}
-use Rattle.protocol.specs.Proc.{Proc, done, ask, mark, if◌then◌else◌}
+use Rattle.protocol.specs.Proc.{Proc, done, ask, mark, when◌then◌else◌}
 use Rattle.protocol.specs.declared.answer.Answer.{Answer}
 
 abbrev pub Replies : Type 0
@@ -68,7 +68,7 @@ transfers (e ∷ es) = busy e.transfer + transfers es
 
 -- 1 for an acknowledged row write
 abbrev pub rows_of : Exchange → ℕ
-rows_of e = if is_row user user_memory e.transfer && e.reply.ack then 1 else 0
+rows_of e = when is_row user user_memory e.transfer && e.reply.ack then 1 else 0
 
 abbrev pub rows_in : List Exchange → ℕ
 rows_in [] = 0

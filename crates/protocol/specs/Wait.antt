@@ -5,7 +5,7 @@
 use Rattle.std.specs.Prelude.{ℕ, zero, suc, []}
 use Rattle.protocol.specs.Transfer.{Transfer, write, delay}
 use Rattle.protocol.specs.Tag.{user, ready_poll_ms}
-use Rattle.protocol.specs.Proc.{Proc, ask, Res, fine, refuse, if◌then◌else◌}
+use Rattle.protocol.specs.Proc.{Proc, ask, Res, fine, refuse, when◌then◌else◌}
 use Rattle.protocol.specs.declared.answer.TagError.TheVariants.{Busy}
 
 abbrev pub poll : Transfer
@@ -13,4 +13,4 @@ poll = write user [] []
 
 abbrev pub wait_ready : ℕ → Proc (Res Unit)
 wait_ready zero = refuse Busy
-wait_ready (suc n) = ask poll (λ r. if r.ack then fine else ask (delay ready_poll_ms) (λ _. wait_ready n))
+wait_ready (suc n) = ask poll (λ r. when r.ack then fine else ask (delay ready_poll_ms) (λ _. wait_ready n))

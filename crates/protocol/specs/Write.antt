@@ -13,7 +13,7 @@ use Rattle.scan.specs.Zeros.{alike}
 use Rattle.protocol.specs.Transfer.{place}
 use Rattle.protocol.specs.Tag.{user_memory, user, chunk, ready_polls}
 use Rattle.protocol.specs.Mark.{Mark, widened}
-use Rattle.protocol.specs.Proc.{Proc, mark, Res, try, fine, refuse, if◌then◌else◌}
+use Rattle.protocol.specs.Proc.{Proc, mark, Res, try, fine, refuse, when◌then◌else◌}
 use Rattle.protocol.specs.Bus.{send, read}
 use Rattle.protocol.specs.Wait.{wait_ready}
 use Rattle.protocol.specs.declared.answer.TagError.TheVariants.{NotTaken}
@@ -28,7 +28,7 @@ program (suc left) at bs =
     program left (at + row_len at (length bs)) (drop (row_len at (length bs)) bs))
 
 abbrev pub read_back : ℕ → ℕ → List ℕ → Bool → Proc (Res Unit)
-read_back zero at bs same = if same then fine else refuse NotTaken
+read_back zero at bs same = when same then fine else refuse NotTaken
 read_back (suc left) at bs same =
     try (read user at (min chunk (length bs))) (λ got.
     read_back left (at + chunk) (drop chunk bs) (same && alike got (take chunk bs)))
@@ -40,11 +40,11 @@ abbrev pub past : ℕ → ℕ → Bool
 past at n = ltb user_memory (at + n)
 
 unfoldable pub read_user : ℕ → ℕ → Proc (Res Unit)
-read_user at n = if past at n then refuse NotTaken else try (read user at n) (λ _. fine)
+read_user at n = when past at n then refuse NotTaken else try (read user at n) (λ _. fine)
 
 unfoldable pub write_user : Mark → ℕ → List ℕ → Proc (Res Unit)
 write_user m at bs =
-    if past at (length bs) then refuse NotTaken else
+    when past at (length bs) then refuse NotTaken else
     mark (widened m at (at + length bs))
     (try (program (row_count at (length bs)) at bs) (λ _.
     read_back (chunks (length bs)) at bs true))

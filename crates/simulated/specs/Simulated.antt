@@ -11,7 +11,7 @@
 --   Stores o s m                           == what the order o stores, of s bytes that are sent, lies inside a memory of m
 use Rattle.std.specs.Prelude.{◌≡◌, Bool, false, ◌&&◌, List, ℕ, ◌+◌, ◌-◌, ◌≤◌, eqb, length}
 use Rattle.protocol.specs.Tag.{user_memory, id_length}
-use Rattle.protocol.specs.Proc.{if◌then◌else◌}
+use Rattle.protocol.specs.Proc.{when◌then◌else◌}
 use Rattle.part.specs.Orders.{accepted, registers_written, memory_written}
 use Rattle.part.specs.Looks.{look_of, answered, shown, registers_read}
 use Rattle.part.specs.Power.{registers_visited, memory_visited, registers_cut, memory_cut}
@@ -34,29 +34,29 @@ abbrev pub refused_by : Registers → Answer
 refused_by r = record { ack = false; registers = r }
 
 abbrev pub wrote : ℕ → List ℕ → ℕ → List ℕ → Registers → Answer
-wrote dev sent ms memory r = if sized memory then record { ack = accepted dev sent r; registers = registers_written dev sent ms r } else refused_by r
+wrote dev sent ms memory r = when sized memory then record { ack = accepted dev sent r; registers = registers_written dev sent ms r } else refused_by r
 
 abbrev pub memory_wrote : ℕ → List ℕ → List ℕ → Registers → List ℕ
-memory_wrote dev sent memory r = if sized memory then memory_written dev sent r memory else memory
+memory_wrote dev sent memory r = when sized memory then memory_written dev sent r memory else memory
 
 abbrev pub did_read : ℕ → List ℕ → ℕ → List ℕ → List ℕ → Registers → Answer
-did_read dev head n identity memory r = if both memory identity then record { ack = answered dev head n r; registers = registers_read dev head n r } else refused_by r
+did_read dev head n identity memory r = when both memory identity then record { ack = answered dev head n r; registers = registers_read dev head n r } else refused_by r
 
 abbrev pub out_read : ℕ → List ℕ → List ℕ → List ℕ → Registers → List ℕ → List ℕ
 out_read dev head identity memory r out =
-    if both memory identity && answered dev head (length out) r then shown (look_of dev head (length out)) (length out) identity memory r else out
+    when both memory identity && answered dev head (length out) r then shown (look_of dev head (length out)) (length out) identity memory r else out
 
 abbrev pub phoned : ℕ → ℕ → List ℕ → Registers → Registers
-phoned at n memory r = if sized memory then registers_visited at n r else r
+phoned at n memory r = when sized memory then registers_visited at n r else r
 
 abbrev pub memory_phoned : ℕ → List ℕ → List ℕ → Registers → List ℕ
-memory_phoned at bs memory r = if sized memory then memory_visited at bs r memory else memory
+memory_phoned at bs memory r = when sized memory then memory_visited at bs r memory else memory
 
 abbrev pub powered_up : Bool → List ℕ → Registers → Registers
-powered_up old memory r = if sized memory then registers_cut old r else r
+powered_up old memory r = when sized memory then registers_cut old r else r
 
 abbrev pub memory_left : List ℕ → List ℕ → Registers → List ℕ
-memory_left bs memory r = if sized memory then memory_cut bs r memory else memory
+memory_left bs memory r = when sized memory then memory_cut bs r memory else memory
 
 -- what is read fills n bytes, with an identification of i bytes and a memory of m
 abbrev pub Fills : Look → ℕ → ℕ → ℕ → Type 0

@@ -9,7 +9,7 @@
 use Rattle.std.specs.Prelude.{ℕ, Bool, eqb}
 use Rattle.slices.specs.Pick.{pick}
 use Rattle.protocol.specs.Tag.{system, system_write_ms, ready_polls}
-use Rattle.protocol.specs.Proc.{Proc, Res, try, fine, refuse, if◌then◌else◌}
+use Rattle.protocol.specs.Proc.{Proc, Res, try, fine, refuse, when◌then◌else◌}
 use Rattle.protocol.specs.Bus.{read_byte, pause}
 use Rattle.protocol.specs.Wait.{wait_ready}
 use Rattle.protocol.specs.Setup.{write_system}
@@ -49,7 +49,7 @@ store_step value (Wait w) ack v = store_waited (wait_step w ack)
 store_step value Look ack v = store_looked value ack v
 
 abbrev pub store_look : ℕ → ℕ → Proc (Res Unit)
-store_look at value = try (read_byte system at) (λ v. if eqb v value then fine else refuse NotTaken)
+store_look at value = try (read_byte system at) (λ v. when eqb v value then fine else refuse NotTaken)
 
 abbrev pub resume_store : ℕ → ℕ → Store → Proc (Res Unit)
 resume_store at value Send = write_system at value

@@ -8,7 +8,7 @@
 --   registers_of t          == the registers that ten numbers are
 --   tile_of r               == the ten numbers of the registers r
 use Rattle.std.specs.Prelude.{Bool, true, false, not, List, [], ◌∷◌, ℕ, ◌%◌, eqb, get_or}
-use Rattle.protocol.specs.Proc.{if◌then◌else◌}
+use Rattle.protocol.specs.Proc.{when◌then◌else◌}
 use Rattle.part.specs.declared.registers.Cycle.{Cycle}
 use Rattle.part.specs.declared.registers.Cycle.TheVariants.{Nothing, Row, Byte}
 use Rattle.part.specs.declared.registers.Registers.{Registers}
@@ -21,7 +21,7 @@ number_of true = 1
 number_of false = 0
 
 abbrev pub cycle_of : ℕ → ℕ → ℕ → Cycle
-cycle_of kind at n = if eqb kind 1 then Row at n else if eqb kind 2 then Byte at (n % 256) else Nothing
+cycle_of kind at n = when eqb kind 1 then Row at n else when eqb kind 2 then Byte at (n % 256) else Nothing
 
 abbrev pub kind_of : Cycle → ℕ
 kind_of Nothing = 0

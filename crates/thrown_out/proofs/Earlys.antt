@@ -13,7 +13,7 @@ use Rattle.slices.specs.Bytes.{splice}
 use Rattle.protocol.specs.Mark.{none, whole, is_none, wipe_end}
 use Rattle.protocol.specs.Transfer.{Transfer, write_read, Reply, place}
 use Rattle.protocol.specs.Tag.{user}
-use Rattle.protocol.specs.Proc.{Proc, done, ask, mark, ◌>>=◌, Res, ok, or_else, try, fine, refuse, if◌then◌else◌}
+use Rattle.protocol.specs.Proc.{Proc, done, ask, mark, ◌>>=◌, Res, ok, or_else, try, fine, refuse, when◌then◌else◌}
 use Rattle.protocol.specs.Rf.{rf_off}
 use Rattle.protocol.specs.Write.{chunks}
 use Rattle.protocol.specs.Scrub.{dirty_rows, some, program_rows, reread, scrub_chunk, scrub_to, scrub}
@@ -101,11 +101,11 @@ module _ (f g : Res Unit → Proc (Res Unit)) (h : Res Unit → Proc Answer) whe
       (zero-chunk at M n (omega arith) z)
     where
       scrubbed : List ℕ → Proc (Res Unit)
-      scrubbed x = try (program_rows at (dirty_rows 4 x)) (λ _. if some (dirty_rows 4 x) then reread at 64 else fine)
+      scrubbed x = try (program_rows at (dirty_rows 4 x)) (λ _. when some (dirty_rows 4 x) then reread at 64 else fine)
 
       answered : Reply → Proc Answer
       answered r =
-          try (try (if r.ack then done (ok (take 64 r.got)) else refuse NoAnswer) scrubbed) (λ _. scrub_to left (at + 64) end) >>= f >>= g >>= h
+          try (try (when r.ack then done (ok (take 64 r.got)) else refuse NoAnswer) scrubbed) (λ _. scrub_to left (at + 64) end) >>= f >>= g >>= h
 
   -- the phone's byte stands in front of the chunks that are left
   passes : (left i end : ℕ) → end ≡ 64 * (suc i + left) → end ≤ 8192

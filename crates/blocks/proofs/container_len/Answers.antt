@@ -1,4 +1,3 @@
-use borrow.Author.Rules.{rules}
 use borrow.Author.Tests.{eq-eqb, ne_eqb, lt-ltb, le-ltb}
 use Rattle.blocks.specs.Read.{container_len}
 use Rattle.blocks.proofs.container_len.Goals as goal

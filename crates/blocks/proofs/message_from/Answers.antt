@@ -1,7 +1,6 @@
-use mathlib.Core.Path.{◌≡◌, refl, ap, sym, ◌∙◌}
-use Prim.Native.Nat.{◌-◌, ◌≤◌}
-use lib.ListN.{length, drop, length-drop}
-use borrow.Author.Rules.{rules}
+use mathlib.Core.Path.{◌≡◌, ap, sym, ◌∙◌}
+use Prim.Native.Nat.{◌-◌}
+use lib.ListN.{drop, length-drop}
 use Rattle.slices.specs.Walk.{on_next}
 use Rattle.slices.proofs.Splice.{part-rest}
 use Rattle.tlv.specs.declared.Block.{Block}

@@ -1,6 +1,5 @@
 use mathlib.Core.Path.{refl}
 use native.Mathlib.Omega.{arith}
-use borrow.Author.Rules.{rules}
 use Rattle.utf8.specs.Utf8.{table, fits}
 use Rattle.utf8.proofs.Rows.{nth}
 use Rattle.utf8.proofs.Places.{row_at, none_at}

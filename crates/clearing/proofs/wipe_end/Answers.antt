@@ -1,4 +1,3 @@
-use borrow.Author.Rules.{rules}
 use Rattle.protocol.specs.Mark.{wipe_end}
 use native.Mathlib.Omega.{arith}
 use Rattle.clearing.proofs.wipe_end.Goals as goal

@@ -1,4 +1,3 @@
-use borrow.Author.Rules.{rules}
 use Rattle.protocol.specs.Mark.{none}
 use Rattle.clearing.proofs.wipe_turn.Goals as goal
 

@@ -1,7 +1,6 @@
 use borrow.Author.Rules.{rules}
 use Rattle.writing.proofs.Writes.{check_law, parts_even}
 use Rattle.scan.proofs.Cutting.{part_length}
-use native.Mathlib.Omega.{arith}
 use Rattle.comparing.proofs.check_step.Goals as goal
 
 pub returns-then-ack : goal.returns-then-ack

@@ -1,4 +1,3 @@
-use borrow.Author.Rules.{rules}
 use Rattle.container.proofs.Access.{marked, unmarked}
 use Rattle.container.proofs.set_read_only.Goals as goal
 

@@ -1,4 +1,3 @@
-use borrow.Author.Rules.{rules}
 use mathlib.Core.Path.{sym, ◌∙◌}
 use Rattle.contents.specs.Contents.{text_of}
 use Rattle.contents.proofs.text.Goals as goal

@@ -1,9 +1,5 @@
-use borrow.Author.Rules.{rules}
 use mathlib.Core.Path.{ap, sym, ◌∙◌}
-use mathlib.Core.List.{List}
-use Prim.Native.Nat.{ℕ}
 use lib.ListN.{length}
-use Rattle.contents.specs.Contents.{text_in, payload_at}
 use Rattle.contents.proofs.Cases.{text_empty, payload_there}
 use native.Mathlib.Omega.{arith}
 use Rattle.contents.proofs.text_at.Goals as goal

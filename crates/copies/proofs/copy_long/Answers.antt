@@ -1,13 +1,9 @@
 use native.Mathlib.Omega.{arith}
-use mathlib.Core.Path.{◌≡◌, refl, ap, sym, subst, ◌∙◌}
-use Prim.Native.Nat.{ℕ, ◌+◌, ◌-◌, ◌≤◌}
-use mathlib.Core.List.{List}
-use lib.ListN.{length, take}
-use lib.Seq.{length-take-le, take_all}
-use borrow.Author.Rules.{rules}
-use Rattle.slices.specs.Bytes.{Wrote}
-use Rattle.slices.proofs.Splice.{splice-none, splice-length}
-use Rattle.copies.proofs.Copied.{part_length, copied_on}
+use mathlib.Core.Path.{refl, sym}
+use Prim.Native.Nat.{◌+◌, ◌-◌, ◌≤◌}
+use lib.ListN.{length}
+use Rattle.slices.proofs.Splice.{splice-none}
+use Rattle.copies.proofs.Copied.{copied_on}
 use Rattle.copies.proofs.copy_long.Goals as goal
 
 pub loop-i-init : goal.loop-i-init

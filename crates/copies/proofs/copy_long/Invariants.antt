@@ -1,13 +1,6 @@
-use native.Mathlib.Omega.{arith}
-use mathlib.Core.Path.{◌≡◌, refl, ap, sym, subst, ◌∙◌}
-use Prim.Native.Nat.{ℕ, ◌+◌, ◌-◌, ◌≤◌}
-use mathlib.Core.List.{List}
+use Prim.Native.Nat.{◌+◌, ◌-◌, ◌≤◌}
 use lib.ListN.{length, take}
-use lib.Seq.{length-take-le, take_all}
-use borrow.Author.Rules.{rules}
 use Rattle.slices.specs.Bytes.{Wrote}
-use Rattle.slices.proofs.Splice.{splice-none, splice-length}
-use Rattle.copies.proofs.Copied.{part_length, copied_on}
 use Rattle.copies.proofs.copy_long.Given as goal
 
 -- A part is written where the parts before it ended.

@@ -1,10 +1,8 @@
-use native.Mathlib.Omega.{arith}
-use mathlib.Core.Path.{◌≡◌, ap, sym, subst, ◌∙◌}
+use mathlib.Core.Path.{◌≡◌, ap, subst, ◌∙◌}
 use mathlib.Core.List.{List}
 use Prim.Native.Nat.{ℕ}
 use lib.ListN.{length, take}
 use lib.Seq.{take-append_seam}
-use borrow.Author.Rules.{rules}
 use Rattle.slices.specs.Bytes.{Wrote}
 use Rattle.slices.proofs.Splice.{splice_front}
 use Rattle.copies.proofs.copy_part.Goals as goal

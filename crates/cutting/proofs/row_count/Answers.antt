@@ -1,4 +1,3 @@
-use borrow.Author.Rules.{rules}
 use Rattle.scan.specs.Rows.{row_count}
 use borrow.Author.Tests.{eq-eqb, ne_eqb}
 use Rattle.cutting.proofs.row_count.Goals as goal

@@ -1,4 +1,3 @@
-use borrow.Author.Rules.{rules}
 use Rattle.scan.specs.Rows.{row_len}
 use native.Mathlib.Omega.{arith}
 use Rattle.cutting.proofs.row_len.Goals as goal

@@ -1,10 +1,8 @@
-use Prim.Native.Nat.{◌-◌, ◌≤◌}
-use mathlib.Core.Path.{◌≡◌, refl, ap, ap₂, ◌∙◌}
+use Prim.Native.Nat.{◌-◌}
+use mathlib.Core.Path.{ap, ◌∙◌}
 use mathlib.Core.Bool.{Bool, ◌&&◌}
 use lib.Dec.{eqb}
-use lib.ListN.{length, take, get_or}
-use lib.Seq.{take_all}
-use Rattle.scan.specs.Zeros.{alike}
+use lib.ListN.{get_or}
 use Rattle.scan.proofs.Blanks.{alike-more}
 use native.Mathlib.Omega.{arith}
 use Rattle.equals.proofs.same.Goals as goal

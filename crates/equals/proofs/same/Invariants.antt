@@ -1,12 +1,7 @@
 use Prim.Native.Nat.{◌-◌, ◌≤◌}
-use mathlib.Core.Path.{◌≡◌, refl, ap, ap₂, ◌∙◌}
-use mathlib.Core.Bool.{Bool, ◌&&◌}
-use lib.Dec.{eqb}
-use lib.ListN.{length, take, get_or}
-use lib.Seq.{take_all}
+use mathlib.Core.Path.{◌≡◌}
+use lib.ListN.{length, take}
 use Rattle.scan.specs.Zeros.{alike}
-use Rattle.scan.proofs.Blanks.{alike-more}
-use native.Mathlib.Omega.{arith}
 use Rattle.equals.proofs.same.Given as goal
 
 abbrev pub invariant-loop-i : goal.invariant-loop-i

@@ -1,4 +1,3 @@
-use borrow.Author.Rules.{rules}
 use mathlib.Core.Path.{ap}
 use Rattle.protocol.specs.Mark.{none}
 use Rattle.stages.specs.declared.stage.Turn.TheVariants.{Over}

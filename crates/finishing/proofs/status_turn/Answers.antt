@@ -1,4 +1,3 @@
-use borrow.Author.Rules.{rules}
 use Rattle.protocol.specs.Mark.{whole}
 use Rattle.finishing.proofs.status_turn.Goals as goal
 

@@ -1,9 +1,6 @@
-use borrow.Author.Rules.{rules}
 use mathlib.Core.Path.{ap}
 use mathlib.Core.Bool.{not}
 use Rattle.wipe.proofs.Scrubs.{read_law}
-use Rattle.scan.proofs.Cutting.{part_length}
-use native.Mathlib.Omega.{arith}
 use Rattle.found.proofs.read_step.Goals as goal
 
 pub returns-then-ack : goal.returns-then-ack

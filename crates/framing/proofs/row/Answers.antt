@@ -1,4 +1,3 @@
-use borrow.Author.Rules.{rules}
 use mathlib.Core.Path.{◌∙◌, ap}
 use Rattle.slices.specs.Bytes.{splice}
 use Rattle.telling.proofs.Frames.{row-framed}

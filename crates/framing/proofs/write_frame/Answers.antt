@@ -1,10 +1,8 @@
-use borrow.Author.Rules.{rules}
 use native.Mathlib.Omega.{arith}
-use mathlib.Core.Path.{ap, sym, ◌∙◌}
+use mathlib.Core.Path.{ap, ◌∙◌}
 use mathlib.Core.List.{List}
 use Prim.Native.Nat.{ℕ}
 use lib.ListN.{take}
-use lib.Seq.{length-take-le}
 use Rattle.slices.specs.Bytes.{splice}
 use Rattle.slices.proofs.Splice.{part-rest}
 use Rattle.framing.proofs.Halves.{halves}

@@ -1,4 +1,3 @@
-use borrow.Author.Rules.{rules}
 use borrow.Author.Tests.{eq-eqb, ne_eqb}
 use Rattle.heads.specs.Heads.{id_len}
 use Rattle.heads.proofs.Heads.{head_at}

@@ -1,11 +1,5 @@
-use borrow.Author.Rules.{rules}
-use mathlib.Core.Path.{ap}
-use Prim.Native.Nat.{ℕ, ◌<◌, ◌≤◌}
-use borrow.Author.Tests.{lt-ltb, le-ltb}
-use Rattle.layout.specs.Lengths.{record_len, image_len}
+use borrow.Author.Tests.{lt-ltb}
 use Rattle.layout.proofs.Sizes.{image-is}
-use Rattle.layout.specs.declared.refusal.Refusal.TheVariants.{TooLong, RecordTooLong}
-use Rattle.layout.specs.declared.refusal.Verdict.TheVariants.{Not}
 use Rattle.judging.specs.Judge.{checks}
 use native.Mathlib.Omega.{arith}
 use Rattle.std.proofs.lemmas.Grind.{common_steps}

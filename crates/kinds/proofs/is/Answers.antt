@@ -1,4 +1,3 @@
-use borrow.Author.Rules.{rules}
 use borrow.Author.Tests.{eq-eqb, ne_eqb}
 use Rattle.pieces.specs.Parts.{is_of}
 use Rattle.pieces.proofs.Parts.{is_one, is-other}

@@ -1,6 +1,3 @@
-use borrow.Author.Rules.{rules}
-use mathlib.Core.Path.{◌≡◌, ap, ◌∙◌}
-use Rattle.layout.specs.Lengths.{sat, record_len, block_len}
 use Rattle.layout.proofs.Sizes.{image-is, record_is}
 use Rattle.lengths.proofs.Heads.{block_at_most, block_sat}
 use native.Mathlib.Omega.{arith}

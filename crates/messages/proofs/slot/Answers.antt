@@ -1,7 +1,6 @@
 use native.Mathlib.Omega.{arith}
 use mathlib.Core.Path.{refl}
 use Prim.Native.Nat.{◌-◌}
-use borrow.Author.Rules.{rules}
 use Rattle.uri.specs.Prefixes.{ascii}
 use Rattle.messages.specs.Messages.{messages, told, lines}
 use Rattle.messages.proofs.Table.{listed, silent, at_end, none}

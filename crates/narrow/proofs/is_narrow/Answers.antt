@@ -1,15 +1,9 @@
-use mathlib.Core.Path.{◌≡◌, sym, ◌∙◌}
-use mathlib.Core.Bool.{true}
-use Prim.Native.Nat.{◌+◌, ◌-◌, ◌≤◌}
-use native.Mathlib.Nat.{add-zero, add_assoc}
+use mathlib.Core.Path.{sym, ◌∙◌}
+use Prim.Native.Nat.{◌-◌}
+use native.Mathlib.Nat.{add_assoc}
 use native.Mathlib.Omega.{arith}
-use lib.ListN.{get_or}
-use borrow.Author.Tests.{not-true}
-use Rattle.slices.specs.Pick.{pick}
 use Rattle.slices.proofs.Truths.{and_left, and_right}
-use Rattle.utf8.specs.Narrow.{later}
-use Rattle.utf8.specs.Skips.{Skips}
-use Rattle.utf8.proofs.Narrow.{narrow_none, narrow_on}
+use Rattle.utf8.proofs.Narrow.{narrow_on}
 use Rattle.narrow.proofs.is_narrow.Goals as goal
 
 pub loop-k-preserved : goal.loop-k-preserved

@@ -1,15 +1,10 @@
-use mathlib.Core.Path.{◌≡◌, sym, ◌∙◌}
+use mathlib.Core.Path.{◌≡◌}
 use mathlib.Core.Bool.{true}
 use Prim.Native.Nat.{◌+◌, ◌-◌, ◌≤◌}
-use native.Mathlib.Nat.{add-zero, add_assoc}
-use native.Mathlib.Omega.{arith}
 use lib.ListN.{get_or}
-use borrow.Author.Tests.{not-true}
 use Rattle.slices.specs.Pick.{pick}
-use Rattle.slices.proofs.Truths.{and_left, and_right}
 use Rattle.utf8.specs.Narrow.{later}
 use Rattle.utf8.specs.Skips.{Skips}
-use Rattle.utf8.proofs.Narrow.{narrow_none, narrow_on}
 use Rattle.narrow.proofs.is_narrow.Given as goal
 
 -- The bytes passed so far are such characters where `ok` still holds; a later byte that stands next is passed with its first.

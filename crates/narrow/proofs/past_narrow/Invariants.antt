@@ -1,12 +1,6 @@
-use mathlib.Core.Path.{ap, ◌∙◌}
-use mathlib.Core.Bool.{Bool}
 use Prim.Native.Nat.{◌-◌}
-use native.Mathlib.Omega.{arith}
-use borrow.Author.Tests.{not-false}
 use lib.ListN.{length}
-use Rattle.slices.specs.Pick.{pick}
 use Rattle.utf8.specs.Skips.{Skips}
-use Rattle.utf8.proofs.Skips.{skips_none, skips_on}
 use Rattle.narrow.proofs.past_narrow.Given as goal
 
 -- Each block is passed over, and so is all from `from` on.

@@ -1,4 +1,3 @@
-use borrow.Author.Rules.{rules}
 use native.Mathlib.Omega.{arith}
 use Rattle.slices.specs.Bytes.{be}
 use Rattle.slices.proofs.Splice.{chain}

@@ -1,4 +1,3 @@
-use borrow.Author.Rules.{rules}
 use Rattle.slices.proofs.Splice.{chain}
 use Rattle.layout.specs.Container.{container}
 use native.Mathlib.Omega.{arith}

@@ -1,4 +1,3 @@
-use borrow.Author.Rules.{rules}
 use Rattle.slices.proofs.Splice.{chain}
 use Rattle.slices.specs.Bytes.{be}
 use Rattle.parts.proofs.Heads.{record_short, record_long}

@@ -1,4 +1,3 @@
-use borrow.Author.Rules.{rules}
 use Rattle.layout.proofs.Sizes.{record_is}
 use native.Mathlib.Omega.{arith}
 use Rattle.parts.proofs.record_len.Goals as goal

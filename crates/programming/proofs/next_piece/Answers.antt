@@ -1,6 +1,3 @@
-use borrow.Author.Rules.{rules}
-use mathlib.Core.Path.{◌∙◌}
-use Rattle.writing.proofs.Writes.{next_piece_lem, last_piece}
 use Rattle.scan.proofs.Cutting.{row_most}
 use Prim.Native.Nat.{◌+◌, ◌-◌}
 use native.Mathlib.Omega.{arith}

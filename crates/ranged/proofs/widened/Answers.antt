@@ -1,4 +1,3 @@
-use borrow.Author.Rules.{rules}
 use native.Mathlib.Omega.{arith}
 use Rattle.protocol.specs.Mark.{widened}
 use Rattle.ranged.proofs.widened.Goals as goal

@@ -1,8 +1,7 @@
-use Prim.Native.Nat.{ℕ, ◌+◌, ◌-◌}
-use mathlib.Core.Path.{◌≡◌, subst, ap, ◌∙◌}
-use lib.ListN.{length, get_or}
-use Rattle.scan.specs.Zeros.{Back}
-use Rattle.scan.proofs.Highs.{back_on, back_one, reach_is}
+use Prim.Native.Nat.{ℕ, ◌-◌}
+use mathlib.Core.Path.{◌≡◌, ap, ◌∙◌}
+use lib.ListN.{get_or}
+use Rattle.scan.proofs.Highs.{reach_is}
 use native.Mathlib.Omega.{arith}
 use Rattle.reach.proofs.searched.Goals as goal
 

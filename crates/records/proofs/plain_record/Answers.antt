@@ -1,8 +1,7 @@
 use mathlib.Core.Path.{ap, ◌∙◌}
-use native.Mathlib.Omega.{arith}
 use lib.ListN.{get_or}
 use Rattle.records.specs.Parse.{whole_of}
-use Rattle.records.proofs.Records.{more_follow, short_way}
+use Rattle.records.proofs.Records.{short_way}
 use Rattle.records.proofs.plain_record.Goals as goal
 
 pub returns : goal.returns

@@ -1,6 +1,3 @@
-use Prim.Native.Nat.{◌≤◌, ◌<◌, ◌+◌}
-use lib.ListN.{length, get_or}
-use borrow.Author.Tests.{lt-ltb, le-ltb}
 use Rattle.records.specs.Parse.{whole_of}
 use native.Mathlib.Omega.{arith}
 use Rattle.std.proofs.lemmas.Grind.{common_steps}

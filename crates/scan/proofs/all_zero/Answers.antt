@@ -1,9 +1,8 @@
-use Prim.Native.Nat.{ℕ, ◌+◌, ◌-◌, ◌≤◌}
-use mathlib.Core.Path.{◌≡◌, refl, ap, ◌∙◌}
+use Prim.Native.Nat.{◌+◌, ◌-◌}
+use mathlib.Core.Path.{ap, ◌∙◌}
 use mathlib.Core.Bool.{Bool, ◌&&◌}
 use lib.Dec.{eqb}
-use lib.ListN.{take, drop, get_or}
-use Rattle.scan.specs.Zeros.{blank}
+use lib.ListN.{get_or}
 use Rattle.scan.proofs.Blanks.{blank-more}
 use native.Mathlib.Omega.{arith}
 use Rattle.scan.proofs.all_zero.Goals as goal

@@ -1,11 +1,7 @@
-use Prim.Native.Nat.{ℕ, ◌+◌, ◌-◌, ◌≤◌}
-use mathlib.Core.Path.{◌≡◌, refl, ap, ◌∙◌}
-use mathlib.Core.Bool.{Bool, ◌&&◌}
-use lib.Dec.{eqb}
-use lib.ListN.{take, drop, get_or}
+use Prim.Native.Nat.{◌-◌, ◌≤◌}
+use mathlib.Core.Path.{◌≡◌}
+use lib.ListN.{take, drop}
 use Rattle.scan.specs.Zeros.{blank}
-use Rattle.scan.proofs.Blanks.{blank-more}
-use native.Mathlib.Omega.{arith}
 use Rattle.scan.proofs.all_zero.Given as goal
 
 abbrev pub invariant-loop-k : goal.invariant-loop-k

@@ -1,7 +1,7 @@
 use Rattle.std.proofs.Common.{ℕ, List, length, ◌+◌, ◌≡◌, take, set, get_or, ap, sym, ◌∙◌, arith}
-use Rattle.std.proofs.Math.Seq.{length-take-le, take-length}
+use Rattle.std.proofs.Math.Seq.{take-length}
 use Rattle.slices.specs.Bytes.{splice}
-use Rattle.slices.proofs.Splice.{splice-none, splice-more, splice-length}
+use Rattle.slices.proofs.Splice.{splice-none, splice-more}
 use Rattle.slices.proofs.copy_to.Goals as goal
 
 pub loop-i-init : goal.loop-i-init

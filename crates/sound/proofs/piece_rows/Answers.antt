@@ -1,5 +1,4 @@
-use borrow.Author.Rules.{rules}
-use mathlib.Core.Path.{sym, subst, ◌∙◌}
+use mathlib.Core.Path.{sym, subst}
 use Prim.Native.Nat.{◌<◌}
 use Rattle.session.proofs.Unders.{under-says, count-some}
 use native.Mathlib.Omega.{arith}

@@ -1,4 +1,3 @@
-use borrow.Author.Rules.{rules}
 use Rattle.protocol.specs.Mark.{is_none}
 use borrow.Author.Tests.{lt-ltb, le-ltb}
 use Rattle.switching.proofs.begin_off_turn.Goals as goal

@@ -1,12 +1,12 @@
-use mathlib.Core.Path.{◌≡◌, ap, ◌∙◌}
-use mathlib.Core.Bool.{Bool, ◌&&◌}
-use Prim.Native.Nat.{◌+◌, ◌-◌, ◌≤◌}
+use mathlib.Core.Path.{ap, ◌∙◌}
+use mathlib.Core.Bool.{Bool}
+use Prim.Native.Nat.{◌-◌}
 use native.Mathlib.Omega.{arith}
-use lib.ListN.{drop, length-replicate}
+use lib.ListN.{length-replicate}
 use Rattle.slices.specs.Pick.{pick}
-use Rattle.utf8.specs.Utf8.{◌to◌, fits}
+use Rattle.utf8.specs.Utf8.{◌to◌}
 use Rattle.utf8.specs.Rest.{rest}
-use Rattle.utf8.proofs.Places.{left, rest-first, rest-next, rest-done, rest-short}
+use Rattle.utf8.proofs.Places.{rest-first, rest-next, rest-done, rest-short}
 use Rattle.tails.proofs.rest.Goals as goal
 
 pub returns-then-s-i : goal.returns-then-s-i

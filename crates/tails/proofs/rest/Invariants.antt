@@ -1,12 +1,10 @@
-use mathlib.Core.Path.{◌≡◌, ap, ◌∙◌}
-use mathlib.Core.Bool.{Bool, ◌&&◌}
+use mathlib.Core.Path.{◌≡◌}
+use mathlib.Core.Bool.{◌&&◌}
 use Prim.Native.Nat.{◌+◌, ◌-◌, ◌≤◌}
-use native.Mathlib.Omega.{arith}
-use lib.ListN.{drop, length-replicate}
-use Rattle.slices.specs.Pick.{pick}
-use Rattle.utf8.specs.Utf8.{◌to◌, fits}
+use lib.ListN.{drop}
+use Rattle.utf8.specs.Utf8.{fits}
 use Rattle.utf8.specs.Rest.{rest}
-use Rattle.utf8.proofs.Places.{left, rest-first, rest-next, rest-done, rest-short}
+use Rattle.utf8.proofs.Places.{left}
 use Rattle.tails.proofs.rest.Given as goal
 
 -- What is left to test decides, together with `ok`, as the whole row did.

@@ -1,12 +1,9 @@
-use mathlib.Core.Path.{◌≡◌}
-use mathlib.Core.Bool.{true}
-use Prim.Native.Nat.{◌+◌, ◌-◌, ◌≤◌}
-use native.Mathlib.Nat.{add-zero, add_assoc}
+use Prim.Native.Nat.{◌-◌}
+use native.Mathlib.Nat.{add_assoc}
 use native.Mathlib.Omega.{arith}
 use borrow.Author.Tests.{ltb-true}
-use Rattle.utf8.specs.Skips.{Skips}
 use Rattle.slices.proofs.Truths.{and_left, and_right}
-use Rattle.utf8.proofs.Skips.{skips_none, skips_on, skips_ascii}
+use Rattle.utf8.proofs.Skips.{skips_on, skips_ascii}
 use Rattle.texts.proofs.all_ascii.Goals as goal
 
 pub loop-k-preserved : goal.loop-k-preserved

@@ -1,5 +1,4 @@
 use native.Mathlib.Omega.{arith}
-use borrow.Author.Rules.{rules}
 use Rattle.utf8.specs.Utf8.{table}
 use Rattle.utf8.proofs.Rows.{nth}
 use Rattle.utf8.proofs.Skips.{skips_row}

@@ -1,8 +1,6 @@
 use mathlib.Core.Path.{sym, ◌∙◌}
 use Prim.Native.Nat.{◌+◌, ◌-◌}
 use native.Mathlib.Omega.{arith}
-use lib.ListN.{length}
-use borrow.Author.Rules.{rules}
 use Rattle.utf8.specs.Skips.{Skips}
 use Rattle.utf8.proofs.Skips.{skips_on, skips_char, skips_bad, skips_all}
 use Rattle.texts.proofs.is_utf8.Goals as goal

@@ -1,9 +1,6 @@
 use Prim.Native.Nat.{◌-◌}
-use native.Mathlib.Omega.{arith}
-use borrow.Author.Tests.{not-false}
 use lib.ListN.{length}
 use Rattle.utf8.specs.Skips.{Skips}
-use Rattle.utf8.proofs.Skips.{skips_none, skips_on}
 use Rattle.texts.proofs.past_pieces.Given as goal
 
 -- Each piece is passed over, and so is all from `from` on.

@@ -1,4 +1,3 @@
-use borrow.Author.Rules.{rules}
 use mathlib.Core.Path.{sym, ◌∙◌}
 use Rattle.judging.proofs.Judged.{text_refused, text_judged}
 use Rattle.textual.proofs.judge_text.Goals as goal

@@ -1,4 +1,3 @@
-use borrow.Author.Rules.{rules}
 use borrow.Author.Tests.{eq-eqb, ne_eqb, lt-ltb, le-ltb}
 use Rattle.tlv.specs.Blocks.{tlv_length}
 use Rattle.tlv.proofs.tlv_len.Goals as goal

@@ -1,4 +1,3 @@
-use borrow.Author.Rules.{rules}
 use Rattle.protocol.specs.Mark.{found}
 use lib.Seq.{take_all}
 use native.Mathlib.Omega.{arith}

@@ -1,9 +1,8 @@
 use borrow.Author.Rules.{rules}
 use borrow.Author.Tests.{le-leb, lt-leb, lt-ltb, le-ltb}
-use Rattle.slices.proofs.Truths.{never}
 use native.Mathlib.Nat.{le_trans}
 use Rattle.walk.specs.Step.{step_of}
-use Rattle.walking.proofs.Ahead.{reaches, ahead}
+use Rattle.walking.proofs.Ahead.{ahead}
 use Rattle.walking.proofs.step.Goals as goal
 
 pub returns-then-image-end : goal.returns-then-image-end

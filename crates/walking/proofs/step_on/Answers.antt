@@ -1,7 +1,5 @@
-use borrow.Author.Rules.{rules}
-use mathlib.Core.Path.{ap, sym, ◌∙◌}
+use mathlib.Core.Path.{sym, ◌∙◌}
 use Rattle.records.proofs.Records.{record_there}
-use Rattle.walk.specs.Step.{on_parsed}
 use native.Mathlib.Omega.{arith}
 use Rattle.walking.proofs.step_on.Goals as goal
 
