@@ -6,7 +6,7 @@
 #![tactic(auto)]
 
 mod codec;
-mod session;
+mod exports;
 
 use crate::codec::Room;
 use buffers::arrays::{Data, Lent, Reply, State, Transfer};
@@ -42,7 +42,7 @@ fn answered<W: Write>(
     let line = stream::line(input, feed);
     let call = names::export(first(line));
     if call != 0 {
-        let a = session::export(
+        let a = exports::export(
             line, said, feed.at, call, lent, state, transfer, reply, data, out,
         );
         return end_line(to, said, a, feed);
