@@ -97,6 +97,9 @@ def words_of(crate, flags=("--jobs", "1")):
     """rattle's words for a crate, over its libraries: all as `rt ci` left them, or else all as rt's other commands make them."""
     below = crate.below()
     if any(is_stamped(it) or not is_left(it) for it in below):
+        if sum(not it.is_built() for it in below) > 12:
+            # (several at a time; what it says of other crates is not asked here)
+            subprocess.run(["rt", "all", "check"], cwd=ROOT, stdin=subprocess.DEVNULL, stdout=subprocess.DEVNULL, stderr=subprocess.DEVNULL)
         for it in below:
             if not it.is_built():
                 quietly(["rt", "lib"], it.folder, f"{it.name} is not proved")
