@@ -43,11 +43,9 @@ fn put_hex(out: &mut [u8], at: usize, s: &[u8]) -> usize
     ensures { Wrote out.old at (hex_of s.now) out.new result }
 {
     let mut a = at;
-    let mut i = 0;
-    while i < s.len() {
-        let b = put(out, a, hex_digit(s[i] / 16));
-        a = put(out, b, hex_digit(s[i] % 16));
-        i += 1;
+    for byte in s {
+        let b = put(out, a, hex_digit(*byte / 16));
+        a = put(out, b, hex_digit(*byte % 16));
     }
     a
 }

@@ -10,10 +10,8 @@ pub fn same(a: &[u8], b: &[u8]) -> bool
     ensures { result ≡ alike a.now b.now }
 {
     let mut ok = true;
-    let mut i = 0;
-    while i < a.len() {
+    for i in 0..a.len() {
         ok = ok & (a[i] == b[i]);
-        i += 1;
     }
     ok
 }

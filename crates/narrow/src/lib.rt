@@ -31,10 +31,8 @@ fn is_narrow(s: &[u8], i: usize, n: usize) -> bool
     ensures { result ≡ true → Skips s.now i (i + n + pick (later (get_or s.now (i + n) 0)) 1 0) }
 {
     let mut ok = !later(s[i]);
-    let mut k = 0;
-    while k < n {
+    for k in 0..n {
         ok = ok & beside(s[i + k], s[i + k + 1]);
-        k += 1;
     }
     ok
 }

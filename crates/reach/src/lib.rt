@@ -25,12 +25,11 @@ fn back(s: &[u8], from: usize, w: usize) -> usize
 fn searched(s: &[u8]) -> usize
     ensures { result ≡ high_water s.now }
 {
-    let mut n = back(s, back(s, s.len(), 64), 8);
-    while 0 < n {
-        if s[n - 1] != 0 {
-            return n;
+    let n = back(s, back(s, s.len(), 64), 8);
+    for k in (0..n).rev() {
+        if s[k] != 0 {
+            return k + 1;
         }
-        n -= 1;
     }
     0
 }

@@ -10,10 +10,8 @@ pub fn all_zero(s: &[u8], i: usize, n: usize) -> bool
     ensures { result ≡ blank (take n (drop i s.now)) }
 {
     let mut ok = true;
-    let mut k = 0;
-    while k < n {
+    for k in 0..n {
         ok = ok & (s[i + k] == 0);
-        k += 1;
     }
     ok
 }

@@ -19,12 +19,10 @@ pub fn copy_to(out: &mut [u8], at: usize, src: &[u8]) -> usize
     requires { at + length src.now ≤ length out.old }
     ensures { Wrote out.old at src.now out.new result }
 {
-    let mut i = 0;
-    while i < src.len() {
+    for i in 0..src.len() {
         out[at + i] = src[i];
-        i += 1;
     }
-    at + i
+    at + src.len()
 }
 
 // The first `n` bytes, or all where there are fewer.

@@ -17,10 +17,8 @@ fn all_ascii(s: &[u8], i: usize, n: usize) -> bool
     ensures { result ≡ true → Skips s.now i (i + n) }
 {
     let mut ok = true;
-    let mut k = 0;
-    while k < n {
+    for k in 0..n {
         ok = ok & (s[i + k] < 128);
-        k += 1;
     }
     ok
 }

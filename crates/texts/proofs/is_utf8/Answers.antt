@@ -1,5 +1,5 @@
 use mathlib.Core.Path.{sym, ◌∙◌}
-use Prim.Native.Nat.{◌+◌, ◌-◌}
+use Prim.Native.Nat.{◌+◌}
 use native.Mathlib.Omega.{arith}
 use Rattle.utf8.specs.Skips.{Skips}
 use Rattle.utf8.proofs.Skips.{skips_on, skips_char, skips_bad, skips_all}
