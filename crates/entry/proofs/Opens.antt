@@ -7,6 +7,7 @@ use native.Mathlib.Omega.{arith}
 use lib.Dec.{eqb, ltb}
 use lib.ListN.{length}
 use borrow.Author.Tests.{eqb-true, ltb-false, not-false}
+use Rattle.std.specs.Prelude.{Option, Some, None}
 use Rattle.slices.specs.Pick.{pick}
 use Rattle.slices.proofs.Truths.{both, either_no}
 use Rattle.protocol.specs.Mark.{Mark, none}
@@ -16,8 +17,6 @@ use Rattle.stages.specs.declared.stage.Stage.{Stage}
 use Rattle.stages.specs.declared.stage.Turn.{Turn}
 use Rattle.session.specs.Sound.{sound}
 use Rattle.session.specs.Steps.{counted, out_of}
-use Rattle.session.specs.declared.session.Now.{Now}
-use Rattle.session.specs.declared.session.Now.TheVariants as N
 use Rattle.session.specs.declared.session.Session.{Session}
 use Rattle.numbers.specs.Flat.{flatten}
 use Rattle.numbers.specs.From.{session_from}
@@ -62,12 +61,12 @@ long : (t r : ℕ) → short t r ≡ false → (19 ≤ t) × (64 ≤ r)
 long t r e = let h = either_no (ltb t 19) (ltb r 64) e in (ltb-false t 19 h.0, ltb-false r 64 h.1)
 
 -- a call that may be started: the lengths of its buffers, and the mark
-idle-says : (m k : Mark) (n : Now) (t r : ℕ) (b : Bool) → short t r ≡ b → opened_now m n t r ≡ O.At k → (19 ≤ t) × (64 ≤ r) × (k ≡ m)
-idle-says m k (N.Open st) t r b e h = absurd (let z : ◌≡◌ {A = ℕ} 0 1 = cc in omega arith)
-idle-says m k N.Idle t r true e h =
+idle-says : (m k : Mark) (n : Option Stage) (t r : ℕ) (b : Bool) → short t r ≡ b → opened_now m n t r ≡ O.At k → (19 ≤ t) × (64 ≤ r) × (k ≡ m)
+idle-says m k (Some st) t r b e h = absurd (let z : ◌≡◌ {A = ℕ} 0 1 = cc in omega arith)
+idle-says m k None t r true e h =
     let g : O.Not 33 ≡ O.At k = sym (ap (λ (x : Bool). pick x (O.Not 33) (O.At m)) e) ∙ h in
     absurd (let z : ◌≡◌ {A = ℕ} 0 1 = cc in omega arith)
-idle-says m k N.Idle t r false e h =
+idle-says m k None t r false e h =
     let g : O.At m ≡ O.At k = sym (ap (λ (x : Bool). pick x (O.Not 33) (O.At m)) e) ∙ h in
     let q : k ≡ m = cc in
     ((long t r e).0, (long t r e).1, q)
@@ -94,7 +93,7 @@ start_fits c l t r (O.Not n) turn eo et = tt
 
 -- a reply that is taken
 module _ (l : List ℕ) (t r lent out : ℕ) (m : Mark) (rows : ℕ) (st : Stage) where
-  open_says : (q : Session) (x : Stage) (b : Bool) → q.now ≡ N.Open x → sound q ≡ true → length l ≡ 20 → misfit q x t r lent out ≡ b
+  open_says : (q : Session) (x : Stage) (b : Bool) → q.now ≡ Some x → sound q ≡ true → length l ≡ 20 → misfit q x t r lent out ≡ b
       → pick (misfit q x t r lent out) (H.Not 33) (H.Goes q.mark q.rows x) ≡ H.Goes m rows st → Going (length l) t r lent out m rows st
   open_says q x true en es el eb h =
       let g : H.Not 33 ≡ H.Goes m rows st = sym (ap (λ (z : Bool). pick z (H.Not 33) (H.Goes q.mark q.rows x)) eb) ∙ h in
@@ -108,8 +107,8 @@ module _ (l : List ℕ) (t r lent out : ℕ) (m : Mark) (rows : ℕ) (st : Stage
       let g = either_no (short t r) (not (eqb lent q.lent)) f.0 in
       let d : lent ≡ q.lent = eqb-true lent q.lent (not-false (eqb lent q.lent) g.1) in
       let w : out ≡ out_of st = eqb-true out (out_of x) (not-false (eqb out (out_of x)) f.1) ∙ ap out_of c in
-      let s : ◌≡◌ {A = Session} q (record { mark = m; rows = rows; lent = lent; now = N.Open st }) =
-      λ i. record { mark = a i; rows = b i; lent = sym d i; now = (en ∙ ap N.Open c) i } in
+      let s : ◌≡◌ {A = Session} q (record { mark = m; rows = rows; lent = lent; now = Some st }) =
+      λ i. record { mark = a i; rows = b i; lent = sym d i; now = (en ∙ ap Some c) i } in
       record {
         state = el;
         transfer = (long t r g.0).0;
@@ -119,10 +118,10 @@ module _ (l : List ℕ) (t r lent out : ℕ) (m : Mark) (rows : ℕ) (st : Stage
       }
 
   -- by whether the buffers fit the stage that is open
-  heard_open : (q : Session) (n : Now) → q.now ≡ n → sound q ≡ true → length l ≡ 20 → heard_now q n t r lent out ≡ H.Goes m rows st
+  heard_open : (q : Session) (n : Option Stage) → q.now ≡ n → sound q ≡ true → length l ≡ 20 → heard_now q n t r lent out ≡ H.Goes m rows st
       → Going (length l) t r lent out m rows st
-  heard_open q N.Idle en es el h = absurd (let z : ◌≡◌ {A = ℕ} 0 1 = cc in omega arith)
-  heard_open q (N.Open x) en es el h = open_says q x (misfit q x t r lent out) en es el refl h
+  heard_open q None en es el h = absurd (let z : ◌≡◌ {A = ℕ} 0 1 = cc in omega arith)
+  heard_open q (Some x) en es el h = open_says q x (misfit q x t r lent out) en es el refl h
 
   pub heard-says : (d : Decoded) → d ≡ decode_of l → heard_by d t r lent out ≡ H.Goes m rows st → Going (length l) t r lent out m rows st
   heard-says Nothing ed h = absurd (let z : ◌≡◌ {A = ℕ} 0 1 = cc in omega arith)
@@ -139,17 +138,17 @@ pub goes_on : (lent : List ℕ) (o : ℕ) (l t r : ℕ) (m : Mark) (rows : ℕ) 
     → TurnFits (length lent) (stage_step lent m st ack got)
 goes_on lent o l t r m rows st ack got g =
     turn-fits (rows + counted (stage_ask (length lent) st) ack) (length lent) (stage_step lent m st ack got)
-    (step-sound (record { mark = m; rows = rows; lent = length lent; now = N.Open st }) st lent ack got g.sane refl refl)
+    (step-sound (record { mark = m; rows = rows; lent = length lent; now = Some st }) st lent ack got g.sane refl refl)
 
 pub count_small : (l t r n o : ℕ) (m : Mark) (rows : ℕ) (st : Stage) → Going l t r n o m rows st → rows < 65000
-count_small l t r n o m rows st g = rows_few (record { mark = m; rows = rows; lent = n; now = N.Open st }) g.sane
+count_small l t r n o m rows st g = rows_few (record { mark = m; rows = rows; lent = n; now = Some st }) g.sane
 
 -- the stage that goes on can ask, and can take its step
 pub next_fits : (l t r n o : ℕ) (m : Mark) (rows : ℕ) (st : Stage) → Going l t r n o m rows st → (19 ≤ t) × StageFits n st
 next_fits l t r n o m rows st g =
-    (g.transfer, stage_fits (record { mark = m; rows = rows; lent = n; now = N.Open st }) st g.sane refl)
+    (g.transfer, stage_fits (record { mark = m; rows = rows; lent = n; now = Some st }) st g.sane refl)
 
 pub steps_able : (l t r n o : ℕ) (m : Mark) (rows : ℕ) (st : Stage) → Going l t r n o m rows st → Able n o st × (m ≤ 8192) × (64 ≤ r)
 steps_able l t r n o m rows st g =
-    let h = able (record { mark = m; rows = rows; lent = n; now = N.Open st }) st o g.sane refl g.whole in
+    let h = able (record { mark = m; rows = rows; lent = n; now = Some st }) st o g.sane refl g.whole in
     (h.0, h.1, g.reply)

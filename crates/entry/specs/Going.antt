@@ -4,12 +4,11 @@
 --   Going s t r lent out m rows st == a state of s bytes, with buffers and data of these lengths, holds a session that calls leave, in the
 --                                     stage st with the mark at m and these rows, and takes a reply
 --   Inside d                       == the mark of a session that was read lies inside the part
-use Rattle.std.specs.Prelude.{◌≡◌, true, ℕ, ◌≤◌}
+use Rattle.std.specs.Prelude.{◌≡◌, true, ℕ, ◌≤◌, Some}
 use Rattle.protocol.specs.Mark.{Mark}
 use Rattle.stages.specs.declared.stage.Stage.{Stage}
 use Rattle.session.specs.Sound.{sound}
 use Rattle.session.specs.Steps.{out_of}
-use Rattle.session.specs.declared.session.Now.TheVariants as N
 use Rattle.state.specs.declared.decode.Decoded.{Decoded}
 use Rattle.state.specs.declared.decode.Decoded.TheVariants.{State, Nothing}
 
@@ -18,7 +17,7 @@ pub record Going (s t r lent out : ℕ) (m : Mark) (rows : ℕ) (st : Stage) : T
   pub transfer : 19 ≤ t
   pub reply : 64 ≤ r
   pub whole : out ≡ out_of st
-  pub sane : sound (record { mark = m; rows = rows; lent = lent; now = N.Open st }) ≡ true
+  pub sane : sound (record { mark = m; rows = rows; lent = lent; now = Some st }) ≡ true
 
 abbrev pub Inside : Decoded → Type 0
 Inside (State q) = q.mark ≤ 8192

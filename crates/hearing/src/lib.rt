@@ -8,7 +8,7 @@ ghost use Rattle.state.specs.Bytes.{decode_of};
 use decoding::decode;
 use framing::short;
 use results::out_of;
-use session::session::{Now, Session};
+use session::session::Session;
 use stages::stage::Stage;
 use state::decode::Decoded;
 use telling::opening::Heard;
@@ -19,12 +19,12 @@ fn misfit(s: Session, st: Stage, transfer: usize, reply: usize, lent: usize, out
     short(transfer, reply) | (lent != s.lent) | (out != out_of(st))
 }
 
-fn heard_now(s: Session, now: Now, transfer: usize, reply: usize, lent: usize, out: usize) -> Heard
+fn heard_now(s: Session, now: Option<Stage>, transfer: usize, reply: usize, lent: usize, out: usize) -> Heard
     ensures { result ≡ heard_now s now transfer reply lent out }
 {
     match now {
-        Now::Idle => Heard::Not(31),
-        Now::Open(st) => {
+        None => Heard::Not(31),
+        Some(st) => {
             if misfit(s, st, transfer, reply, lent, out) {
                 Heard::Not(33)
             } else {

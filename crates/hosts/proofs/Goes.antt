@@ -6,6 +6,7 @@ use Prim.Native.Nat.{ℕ, ◌+◌, ◌≤◌}
 use lib.Dec.{eqb}
 use lib.ListN.{length}
 use borrow.Author.Tests.{le-ltb, eq-eqb}
+use Rattle.std.specs.Prelude.{Some}
 use Rattle.slices.specs.Pick.{pick}
 use Rattle.protocol.specs.Mark.{Mark}
 use Rattle.protocol.specs.Call.{Call}
@@ -14,7 +15,6 @@ use Rattle.stages.specs.Able.{got_by}
 use Rattle.stages.specs.declared.stage.Stage.{Stage}
 use Rattle.session.specs.Sound.{sound}
 use Rattle.session.specs.Steps.{idle, counted, out_of}
-use Rattle.session.specs.declared.session.Now.TheVariants as N
 use Rattle.session.specs.declared.session.Session.{Session}
 use Rattle.state.specs.Bytes.{encode, decode_of}
 use Rattle.state.specs.declared.decode.Decoded.{Decoded}
@@ -39,7 +39,7 @@ start_goes c m s t r e ht hr =
 
 module _ (m : Mark) (k : ℕ) (st : Stage) (lent t r out : List ℕ) (ack : ℕ) where
   abbrev session : Session
-  session = record { mark = m; rows = k; lent = length lent; now = N.Open st }
+  session = record { mark = m; rows = k; lent = length lent; now = Some st }
 
   -- a reply on the bytes of a session with an open call
   pub reply-goes : sound session ≡ true → 19 ≤ length t → 64 ≤ length r → length out ≡ out_of st

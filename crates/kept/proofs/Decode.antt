@@ -8,12 +8,12 @@ use lib.ListN.{length, get_or, drop, drop_of_length-le}
 use lib.Seq.{drop-cons}
 use lib.Dec.{eqb}
 use borrow.Author.Tests.{eqb-true, eq-eqb}
+use Rattle.std.specs.Prelude.{Option, Some, None}
 use Rattle.slices.specs.Pick.{pick}
 use Rattle.slices.proofs.Truths.{both, both_so}
 use Rattle.slices.proofs.Numbers.{byte-rest}
 use Rattle.session.specs.Sound.{sound}
-use Rattle.session.specs.declared.session.Now.{Now}
-use Rattle.session.specs.declared.session.Now.TheVariants as N
+use Rattle.stages.specs.declared.stage.Stage.{Stage}
 use Rattle.session.specs.declared.session.Session.{Session}
 use Rattle.numbers.specs.Flat.{now_flat, flatten}
 use Rattle.numbers.specs.From.{session_from}
@@ -102,9 +102,9 @@ place_is a b e =
     λ i. record { bits = x i; left = l i; at = p i; end = n i; row = r i }
 
 -- the mark, the rows and the data's length stand in the numbers as they are
-pub now_counts : (m r l : ℕ) (n : Now) → ((now_flat m r l n).mark ≡ m) × ((now_flat m r l n).rows ≡ r) × ((now_flat m r l n).lent ≡ l)
-now_counts m r l N.Idle = (refl, refl, refl)
-now_counts m r l (N.Open st) = (refl, refl, refl)
+pub now_counts : (m r l : ℕ) (n : Option Stage) → ((now_flat m r l n).mark ≡ m) × ((now_flat m r l n).rows ≡ r) × ((now_flat m r l n).lent ≡ l)
+now_counts m r l None = (refl, refl, refl)
+now_counts m r l (Some st) = (refl, refl, refl)
 
 flat_is : (f : Flat) → same_flat (flatten (session_from f)) f ≡ true → flatten (session_from f) ≡ f
 flat_is f e =

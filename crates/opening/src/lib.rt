@@ -6,22 +6,21 @@ ghost use Rattle.telling.specs.Left.{opened_now, opened_by, opened_of, mark_of};
 
 use decoding::decode;
 use framing::short;
-use session::session::Now;
 use state::decode::Decoded;
 use telling::opening::Opened;
 
-fn opened_now(m: usize, now: Now, transfer: usize, reply: usize) -> Opened
+fn opened_now(m: usize, now: Option<Stage>, transfer: usize, reply: usize) -> Opened
     ensures { result ≡ opened_now m now transfer reply }
 {
     match now {
-        Now::Idle => {
+        None => {
             if short(transfer, reply) {
                 Opened::Not(33)
             } else {
                 Opened::At(m)
             }
         }
-        Now::Open(_) => Opened::Not(32),
+        Some(_) => Opened::Not(32),
     }
 }
 

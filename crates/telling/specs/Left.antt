@@ -22,7 +22,7 @@
 --   started_left, replied_left, repeated_left == the same three, on what was found open or heard
 --   new_state s n, new_step s     == a session made in s: 34 for a wrong length alone
 --   dirty_step s                 == the mark of the session in s, or 34. dirty_decoded: the same, on what was decoded
-use Rattle.std.specs.Prelude.{◌≡◌, ℕ, ◌+◌, Bool, true, false, not, ◌||◌, List, ◌++◌, eqb, ltb, length, drop, replicate}
+use Rattle.std.specs.Prelude.{◌≡◌, ℕ, ◌+◌, Bool, true, false, not, ◌||◌, List, ◌++◌, eqb, ltb, length, drop, replicate, Option, Some, None}
 use Rattle.slices.specs.Pick.{pick}
 use Rattle.protocol.specs.Transfer.{Transfer, sent}
 use Rattle.protocol.specs.Mark.{Mark}
@@ -38,8 +38,6 @@ use Rattle.stages.specs.declared.stage.Stage.TheVariants as G
 use Rattle.stages.specs.declared.stage.Turn.{Turn}
 use Rattle.stages.specs.declared.stage.Turn.TheVariants.{Open, Over}
 use Rattle.session.specs.Steps.{idle, entered, counted, out_of}
-use Rattle.session.specs.declared.session.Now.{Now}
-use Rattle.session.specs.declared.session.Now.TheVariants as N
 use Rattle.session.specs.declared.session.Session.{Session}
 use Rattle.state.specs.Bytes.{state_length, encode, decode_of}
 use Rattle.state.specs.declared.decode.Decoded.{Decoded}
@@ -109,9 +107,9 @@ abbrev pub short : ℕ → ℕ → Bool
 short t r = ltb t transfer_length || ltb r reply_length
 
 -- a call may be started with the mark at m, or the refusal's number
-abbrev pub opened_now : Mark → Now → ℕ → ℕ → Opened
-opened_now m (N.Open st) t r = O.Not 32
-opened_now m N.Idle t r = pick (short t r) (O.Not 33) (O.At m)
+abbrev pub opened_now : Mark → Option Stage → ℕ → ℕ → Opened
+opened_now m (Some st) t r = O.Not 32
+opened_now m None t r = pick (short t r) (O.Not 33) (O.At m)
 
 abbrev pub opened_by : Decoded → ℕ → ℕ → Opened
 opened_by Nothing t r = O.Not 34
@@ -137,9 +135,9 @@ abbrev pub misfit : Session → Stage → ℕ → ℕ → ℕ → ℕ → Bool
 misfit q st t r lent out = short t r || not (eqb lent q.lent) || not (eqb out (out_of st))
 
 -- a reply may be taken: the mark, the rows and the stage; or the refusal's number
-abbrev pub heard_now : Session → Now → ℕ → ℕ → ℕ → ℕ → Heard
-heard_now q N.Idle t r lent out = H.Not 31
-heard_now q (N.Open st) t r lent out = pick (misfit q st t r lent out) (H.Not 33) (H.Goes q.mark q.rows st)
+abbrev pub heard_now : Session → Option Stage → ℕ → ℕ → ℕ → ℕ → Heard
+heard_now q None t r lent out = H.Not 31
+heard_now q (Some st) t r lent out = pick (misfit q st t r lent out) (H.Not 33) (H.Goes q.mark q.rows st)
 
 abbrev pub heard_by : Decoded → ℕ → ℕ → ℕ → ℕ → Heard
 heard_by Nothing t r lent out = H.Not 34

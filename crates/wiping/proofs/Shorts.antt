@@ -8,6 +8,7 @@ use native.Mathlib.Omega.{arith}
 use lib.Dec.{eqb, ltb, leb}
 use lib.ListN.{length, drop}
 use borrow.Author.Tests.{eqb-true, ltb-true, ltb-false, leb-true, not-false, le-leb, le-ltb, eq-eqb}
+use Rattle.std.specs.Prelude.{Some}
 use Rattle.slices.specs.Bytes.{Wrote}
 use Rattle.slices.proofs.Truths.{both, both_so, either, either_no}
 use Rattle.protocol.specs.Transfer.{Transfer, sent}
@@ -26,7 +27,6 @@ use Rattle.stages.specs.declared.stage.Stage.{Stage}
 use Rattle.stages.specs.declared.stage.Turn.TheVariants.{Open}
 use Rattle.session.specs.Sound.{scrub_sound, stage_sound, sound}
 use Rattle.session.specs.Steps.{counted, out_of}
-use Rattle.session.specs.declared.session.Now.TheVariants as N
 use Rattle.session.specs.declared.session.Session.{Session}
 use Rattle.numbers.specs.Flat.{scrub_code, scrub_place, stage_tag, stage_code, stage_place, flatten}
 use Rattle.numbers.specs.declared.flat.Flat.{Flat}
@@ -129,7 +129,7 @@ fit_all q st t r lent out ht hr el eo = rw (le-ltb t 19 ht, le-ltb r 64 hr, eq-e
 
 module _ (l t r lent out : List ℕ) (ack : ℕ) (long : length l ≡ 20) (ht : 19 ≤ length t) (hr : 64 ≤ length r) (hl : length lent ≡ 0) (ho : length out ≡ 0)
     (yes : not (eqb ack 0) ≡ true) where
-  heard-is : (q : Session) (st : Stage) → decode_flat (flat_of l) ≡ State q → q.now ≡ N.Open st → q.lent ≡ 0 → out_of st ≡ 0
+  heard-is : (q : Session) (st : Stage) → decode_flat (flat_of l) ≡ State q → q.now ≡ Some st → q.lent ≡ 0 → out_of st ≡ 0
       → heard_by (decode_of l) (length t) (length r) (length lent) (length out) ≡ Goes q.mark q.rows st
   heard-is q st d o z k =
       let n : decode_of l ≡ State q = rw (eq-eqb (length l) 20 long) d in

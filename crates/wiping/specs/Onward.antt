@@ -16,7 +16,7 @@
 --   Moves f got o           == a state with the numbers f goes on to o. AnyMoves: whatever stands in the reply buffer
 --   short_left f s t r       == what a step leaves whose state has the numbers f, and that waits on the transfer of s
 --   Short l t r lent out ack n == a reply leaves what n says
-use Rattle.std.specs.Prelude.{◌≡◌, Bool, true, false, ◌&&◌, ◌||◌, List, [], ◌++◌, ℕ, ◌+◌, ◌≤◌, eqb, ltb, length, drop}
+use Rattle.std.specs.Prelude.{◌≡◌, Bool, true, false, ◌&&◌, ◌||◌, List, [], ◌++◌, ℕ, ◌+◌, ◌≤◌, eqb, ltb, length, drop, Some}
 use Rattle.slices.specs.Pick.{pick}
 use Rattle.protocol.specs.Transfer.{sent}
 use Rattle.machine.specs.Ask.{meant}
@@ -28,7 +28,6 @@ use Rattle.stages.specs.declared.stage.Stage.{Stage}
 use Rattle.stages.specs.declared.stage.Stage.TheVariants as G
 use Rattle.session.specs.Sound.{scrub_sound}
 use Rattle.session.specs.Steps.{counted}
-use Rattle.session.specs.declared.session.Now.TheVariants as N
 use Rattle.session.specs.declared.session.Session.{Session}
 use Rattle.numbers.specs.Flat.{scrub_code, scrub_place}
 use Rattle.numbers.specs.declared.flat.Code.{Code}
@@ -49,7 +48,7 @@ abbrev pub wipe_stage : ℕ → ℕ → Scrub → Stage
 wipe_stage tag which s = pick (eqb tag 12) (G.Wipe s) (G.FinishWipe (eqb which 1) s)
 
 abbrev pub wiping : Flat → ℕ → Scrub → Session
-wiping f rows s = record { mark = f.mark; rows = rows; lent = 0; now = N.Open (wipe_stage f.stage f.code.which s) }
+wiping f rows s = record { mark = f.mark; rows = rows; lent = 0; now = Some (wipe_stage f.stage f.code.which s) }
 
 abbrev pub moved : Flat → ℕ → Scrub → Flat
 moved f rows s =
