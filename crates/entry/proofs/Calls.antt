@@ -7,6 +7,7 @@ use native.Mathlib.Omega.{arith}
 use lib.Dec.{eqb}
 use lib.ListN.{length}
 use borrow.Author.Tests.{eq-eqb, ne_eqb}
+use Rattle.std.specs.Prelude.{Option}
 use Rattle.protocol.specs.Mark.{Mark, given}
 use Rattle.protocol.specs.Call.{Call}
 use Rattle.machine.specs.declared.ask.Ask.{Ask}
@@ -18,7 +19,6 @@ use Rattle.stages.specs.declared.stage.Turn.{Turn}
 use Rattle.session.specs.Steps.{idle, counted}
 use Rattle.session.specs.declared.session.Session.{Session}
 use Rattle.state.specs.Bytes.{encode, decode_of}
-use Rattle.state.specs.declared.decode.Decoded.{Decoded}
 use Rattle.telling.specs.Step.{answer_step}
 use Rattle.telling.specs.Left.{Left, Leaves, settled, opened_of, mark_of, started_left, start_left, heard_of, replied_left, reply_left, repeated_left, next_left, new_step, new_state, dirty_decoded, dirty_step}
 use Rattle.telling.specs.declared.opening.Opened.{Opened}
@@ -78,5 +78,5 @@ new-long s state mark step q h eq es et = (rw (eq-eqb (length s) 20 h) et, rw (e
 pub new-short : (s : List ℕ) (mark step : ℕ) → (length s ≡ 20 → ⊥) → step ≡ answer_step 34 0 0 → (step ≡ new_step s) × (s ≡ new_state s mark)
 new-short s mark step h et = (rw (ne_eqb (length s) 20 h) et, rw (ne_eqb (length s) 20 h))
 
-pub dirty_is : (l : List ℕ) (d : Decoded) (step : ℕ) → d ≡ decode_of l → step ≡ dirty_decoded d → step ≡ dirty_step l
+pub dirty_is : (l : List ℕ) (d : Option Session) (step : ℕ) → d ≡ decode_of l → step ≡ dirty_decoded d → step ≡ dirty_step l
 dirty_is l d step ed es = es ∙ ap dirty_decoded ed

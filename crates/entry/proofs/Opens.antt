@@ -22,8 +22,6 @@ use Rattle.numbers.specs.Flat.{flatten}
 use Rattle.numbers.specs.From.{session_from}
 use Rattle.state.specs.Bytes.{flat_of, same_flat, decode_flat, decode_of}
 use Rattle.numbers.specs.declared.flat.Flat.{Flat}
-use Rattle.state.specs.declared.decode.Decoded.{Decoded}
-use Rattle.state.specs.declared.decode.Decoded.TheVariants.{State, Nothing}
 use Rattle.kept.proofs.Sounds.{mark-inside, start_sound, step-sound}
 use Rattle.kept.proofs.Small.{flat_small}
 use Rattle.kept.proofs.Decode.{now_counts}
@@ -39,23 +37,23 @@ use Rattle.entry.proofs.Asks.{stage_fits, turn-fits}
 
 -- bytes that are read as a session are twenty, and the session is one that calls leave
 flat_says : (f : Flat) (q : Session) (b : Bool) → (same_flat (flatten (session_from f)) f && sound (session_from f)) ≡ b
-    → pick b (State (session_from f)) Nothing ≡ State q → sound q ≡ true
+    → pick b (Some (session_from f)) None ≡ Some q → sound q ≡ true
 flat_says f q true e h =
     let g : session_from f ≡ q = cc in
     sym (ap sound g) ∙ (both (same_flat (flatten (session_from f)) f) (sound (session_from f)) e).1
 flat_says f q false e h = absurd (let z : ◌≡◌ {A = ℕ} 0 1 = cc in omega arith)
 
-decoded_if : (l : List ℕ) (q : Session) (b : Bool) → eqb (length l) 20 ≡ b → pick b (decode_flat (flat_of l)) Nothing ≡ State q
+decoded_if : (l : List ℕ) (q : Session) (b : Bool) → eqb (length l) 20 ≡ b → pick b (decode_flat (flat_of l)) None ≡ Some q
     → (length l ≡ 20) × (sound q ≡ true)
 decoded_if l q true e h = (eqb-true (length l) 20 e, flat_says (flat_of l) q _ refl h)
 decoded_if l q false e h = absurd (let z : ◌≡◌ {A = ℕ} 0 1 = cc in omega arith)
 
-pub decoded_says : (l : List ℕ) (q : Session) → decode_of l ≡ State q → (length l ≡ 20) × (sound q ≡ true)
+pub decoded_says : (l : List ℕ) (q : Session) → decode_of l ≡ Some q → (length l ≡ 20) × (sound q ≡ true)
 decoded_says l q h = decoded_if l q (eqb (length l) 20) refl h
 
-pub decoded_inside : (l : List ℕ) (d : Decoded) → d ≡ decode_of l → Inside d
-decoded_inside l (State q) e = mark-inside q (decoded_says l q (sym e)).1
-decoded_inside l Nothing e = tt
+pub decoded_inside : (l : List ℕ) (d : Option Session) → d ≡ decode_of l → Inside d
+decoded_inside l (Some q) e = mark-inside q (decoded_says l q (sym e)).1
+decoded_inside l None e = tt
 
 long : (t r : ℕ) → short t r ≡ false → (19 ≤ t) × (64 ≤ r)
 long t r e = let h = either_no (ltb t 19) (ltb r 64) e in (ltb-false t 19 h.0, ltb-false r 64 h.1)
@@ -71,10 +69,10 @@ idle-says m k None t r false e h =
     let q : k ≡ m = cc in
     ((long t r e).0, (long t r e).1, q)
 
-opened-says : (l : List ℕ) (k : Mark) (d : Decoded) (t r : ℕ) → d ≡ decode_of l → opened_by d t r ≡ O.At k
+opened-says : (l : List ℕ) (k : Mark) (d : Option Session) (t r : ℕ) → d ≡ decode_of l → opened_by d t r ≡ O.At k
     → (length l ≡ 20) × (19 ≤ t) × (64 ≤ r) × (k ≤ 8192)
-opened-says l k Nothing t r ed h = absurd (let z : ◌≡◌ {A = ℕ} 0 1 = cc in omega arith)
-opened-says l k (State q) t r ed h =
+opened-says l k None t r ed h = absurd (let z : ◌≡◌ {A = ℕ} 0 1 = cc in omega arith)
+opened-says l k (Some q) t r ed h =
     let s = decoded_says l q (sym ed) in
     let i = idle-says q.mark k q.now t r (short t r) refl h in
     (s.0, i.0, i.1, subst (λ (x : ℕ). x ≤ 8192) (sym i.2) (mark-inside q s.1))
@@ -123,9 +121,9 @@ module _ (l : List ℕ) (t r lent out : ℕ) (m : Mark) (rows : ℕ) (st : Stage
   heard_open q None en es el h = absurd (let z : ◌≡◌ {A = ℕ} 0 1 = cc in omega arith)
   heard_open q (Some x) en es el h = open_says q x (misfit q x t r lent out) en es el refl h
 
-  pub heard-says : (d : Decoded) → d ≡ decode_of l → heard_by d t r lent out ≡ H.Goes m rows st → Going (length l) t r lent out m rows st
-  heard-says Nothing ed h = absurd (let z : ◌≡◌ {A = ℕ} 0 1 = cc in omega arith)
-  heard-says (State q) ed h =
+  pub heard-says : (d : Option Session) → d ≡ decode_of l → heard_by d t r lent out ≡ H.Goes m rows st → Going (length l) t r lent out m rows st
+  heard-says None ed h = absurd (let z : ◌≡◌ {A = ℕ} 0 1 = cc in omega arith)
+  heard-says (Some q) ed h =
       let s = decoded_says l q (sym ed) in
       heard_open q q.now refl s.1 s.0 h
 

@@ -4,13 +4,12 @@
 --   Going s t r lent out m rows st == a state of s bytes, with buffers and data of these lengths, holds a session that calls leave, in the
 --                                     stage st with the mark at m and these rows, and takes a reply
 --   Inside d                       == the mark of a session that was read lies inside the part
-use Rattle.std.specs.Prelude.{◌≡◌, true, ℕ, ◌≤◌, Some}
+use Rattle.std.specs.Prelude.{◌≡◌, true, ℕ, ◌≤◌, Some, Option, None}
 use Rattle.protocol.specs.Mark.{Mark}
 use Rattle.stages.specs.declared.stage.Stage.{Stage}
 use Rattle.session.specs.Sound.{sound}
 use Rattle.session.specs.Steps.{out_of}
-use Rattle.state.specs.declared.decode.Decoded.{Decoded}
-use Rattle.state.specs.declared.decode.Decoded.TheVariants.{State, Nothing}
+use Rattle.session.specs.declared.session.Session.{Session}
 
 pub record Going (s t r lent out : ℕ) (m : Mark) (rows : ℕ) (st : Stage) : Type 0 where
   pub state : s ≡ 20
@@ -19,6 +18,6 @@ pub record Going (s t r lent out : ℕ) (m : Mark) (rows : ℕ) (st : Stage) : T
   pub whole : out ≡ out_of st
   pub sane : sound (record { mark = m; rows = rows; lent = lent; now = Some st }) ≡ true
 
-abbrev pub Inside : Decoded → Type 0
-Inside (State q) = q.mark ≤ 8192
-Inside Nothing = Unit
+abbrev pub Inside : Option Session → Type 0
+Inside (Some q) = q.mark ≤ 8192
+Inside None = Unit

@@ -10,7 +10,6 @@ use framing::short;
 use results::out_of;
 use session::session::Session;
 use stages::stage::Stage;
-use state::decode::Decoded;
 use telling::opening::Heard;
 
 fn misfit(s: Session, st: Stage, transfer: usize, reply: usize, lent: usize, out: usize) -> bool
@@ -34,15 +33,15 @@ fn heard_now(s: Session, now: Option<Stage>, transfer: usize, reply: usize, lent
     }
 }
 
-fn heard_by(d: Decoded, transfer: usize, reply: usize, lent: usize, out: usize) -> Heard
+fn heard_by(d: Option<Session>, transfer: usize, reply: usize, lent: usize, out: usize) -> Heard
     ensures { result ≡ heard_by d transfer reply lent out }
 {
     match d {
-        Decoded::State(s) => {
+        Some(s) => {
             let now = s.now;
             heard_now(s, now, transfer, reply, lent, out)
         }
-        Decoded::Nothing => Heard::Not(34),
+        None => Heard::Not(34),
     }
 }
 

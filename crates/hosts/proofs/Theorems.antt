@@ -23,7 +23,6 @@ use Rattle.stages.specs.declared.stage.Turn.TheVariants.{Open, Over}
 use Rattle.session.specs.Sound.{sound}
 use Rattle.session.specs.Steps.{idle, entered, counted}
 use Rattle.state.specs.Bytes.{encode, decode_of}
-use Rattle.state.specs.declared.decode.Decoded.TheVariants.{State}
 use Rattle.telling.specs.Step.{answer_step, transfer_step, padded}
 use Rattle.telling.specs.Left.{Left, into_out, waits_on, framed, settled, start_left, reply_left}
 use Rattle.telling.specs.Fit.{StageFits, TurnFits}
@@ -135,10 +134,10 @@ along lent o k (Open m st) t r l es e xs end el s h ht hr (goes {t = x} {es = ys
     }
 
 -- Any host, any replies: what the bus sees is the beginning of the definition's run, it is never longer, and with the answer it is all of it.
-pub hosts_agree : (c : Call) (m : Mark) (s t r : List ℕ) (es : List Act) (e : Left) → decode_of s ≡ State (idle m) → 19 ≤ length t → 64 ≤ length r
+pub hosts_agree : (c : Call) (m : Mark) (s t r : List ℕ) (es : List Act) (e : Left) → decode_of s ≡ Some (idle m) → 19 ≤ length t → 64 ≤ length r
     → Hosts (lent_to c) (out_for c) (start_left c s t r) es e → Agrees c m es e
 hosts_agree c m s t r es e d ht hr h =
-    let hm : m ≤ 8192 = decoded_inside s (State (idle m)) (sym d) in
+    let hm : m ≤ 8192 = decoded_inside s (Some (idle m)) (sym d) in
     let i = along (lent_to c) (out_for c) 0 (start_of c m) t r _ es e _ _ (start_goes c m s t r d ht hr) (start_sound c m hm) (start_out c m) ht hr
     (session_drives c m (replies_of es) hm) h in
     record {

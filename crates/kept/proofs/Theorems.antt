@@ -18,7 +18,6 @@ use Rattle.session.specs.Sound.{sound}
 use Rattle.session.specs.Steps.{idle, entered, counted, out_of}
 use Rattle.session.specs.declared.session.Session.{Session}
 use Rattle.state.specs.Bytes.{encode, decode_of}
-use Rattle.state.specs.declared.decode.Decoded.TheVariants.{State}
 use Rattle.kept.specs.Bytes.{Bytes}
 use Rattle.kept.specs.Kept.{Kept}
 use Rattle.kept.proofs.Sounds as sounds
@@ -52,15 +51,15 @@ pub counts_rows : (s : Session) (st : Stage) (lent : List ℕ) (r : Reply) → s
 counts_rows = counts.counts_rows
 
 -- a session that was encoded is decoded
-pub decode_encode : (s : Session) → sound s ≡ true → decode_of (encode s) ≡ State s
+pub decode_encode : (s : Session) → sound s ≡ true → decode_of (encode s) ≡ Some s
 decode_encode = decode.decode_encode
 
 -- and nothing else is: bytes that are decoded are the state of a session that calls leave
-pub decode_only : (l : List ℕ) (s : Session) → Bytes l → decode_of l ≡ State s → (sound s ≡ true) × (encode s ≡ l)
+pub decode_only : (l : List ℕ) (s : Session) → Bytes l → decode_of l ≡ Some s → (sound s ≡ true) × (encode s ≡ l)
 decode_only = decode.decode_only
 
 -- so the states are the bytes of the sessions that calls leave
-pub kept_exactly : (l : List ℕ) (s : Session) → Bytes l → (decode_of l ≡ State s) ↔ (Kept s × (encode s ≡ l))
+pub kept_exactly : (l : List ℕ) (s : Session) → Bytes l → (decode_of l ≡ Some s) ↔ (Kept s × (encode s ≡ l))
 kept_exactly l s b = (
   λ e. let h = decode.decode_only l s b e in (exactly.sound-left s h.0, h.1),
   λ h. sym (ap decode_of h.1) ∙ decode.decode_encode s (sounds.left-sound s h.0),

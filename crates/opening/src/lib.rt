@@ -6,7 +6,6 @@ ghost use Rattle.telling.specs.Left.{opened_now, opened_by, opened_of, mark_of};
 
 use decoding::decode;
 use framing::short;
-use state::decode::Decoded;
 use telling::opening::Opened;
 
 fn opened_now(m: usize, now: Option<Stage>, transfer: usize, reply: usize) -> Opened
@@ -24,15 +23,15 @@ fn opened_now(m: usize, now: Option<Stage>, transfer: usize, reply: usize) -> Op
     }
 }
 
-fn opened_by(d: Decoded, transfer: usize, reply: usize) -> Opened
+fn opened_by(d: Option<Session>, transfer: usize, reply: usize) -> Opened
     ensures { result ≡ opened_by d transfer reply }
 {
     match d {
-        Decoded::State(s) => {
+        Some(s) => {
             let now = s.now;
             opened_now(s.mark, now, transfer, reply)
         }
-        Decoded::Nothing => Opened::Not(34),
+        None => Opened::Not(34),
     }
 }
 

@@ -40,8 +40,6 @@ use Rattle.stages.specs.declared.stage.Turn.TheVariants.{Open, Over}
 use Rattle.session.specs.Steps.{idle, entered, counted, out_of}
 use Rattle.session.specs.declared.session.Session.{Session}
 use Rattle.state.specs.Bytes.{state_length, encode, decode_of}
-use Rattle.state.specs.declared.decode.Decoded.{Decoded}
-use Rattle.state.specs.declared.decode.Decoded.TheVariants.{State, Nothing}
 use Rattle.telling.specs.declared.opening.Opened.{Opened}
 use Rattle.telling.specs.declared.opening.Opened.TheVariants as O
 use Rattle.telling.specs.declared.opening.Heard.{Heard}
@@ -111,9 +109,9 @@ abbrev pub opened_now : Mark → Option Stage → ℕ → ℕ → Opened
 opened_now m (Some st) t r = O.Not 32
 opened_now m None t r = pick (short t r) (O.Not 33) (O.At m)
 
-abbrev pub opened_by : Decoded → ℕ → ℕ → Opened
-opened_by Nothing t r = O.Not 34
-opened_by (State q) t r = opened_now q.mark q.now t r
+abbrev pub opened_by : Option Session → ℕ → ℕ → Opened
+opened_by None t r = O.Not 34
+opened_by (Some q) t r = opened_now q.mark q.now t r
 
 abbrev pub opened_of : List ℕ → ℕ → ℕ → Opened
 opened_of s t r = opened_by (decode_of s) t r
@@ -139,9 +137,9 @@ abbrev pub heard_now : Session → Option Stage → ℕ → ℕ → ℕ → ℕ 
 heard_now q None t r lent out = H.Not 31
 heard_now q (Some st) t r lent out = pick (misfit q st t r lent out) (H.Not 33) (H.Goes q.mark q.rows st)
 
-abbrev pub heard_by : Decoded → ℕ → ℕ → ℕ → ℕ → Heard
-heard_by Nothing t r lent out = H.Not 34
-heard_by (State q) t r lent out = heard_now q q.now t r lent out
+abbrev pub heard_by : Option Session → ℕ → ℕ → ℕ → ℕ → Heard
+heard_by None t r lent out = H.Not 34
+heard_by (Some q) t r lent out = heard_now q q.now t r lent out
 
 abbrev pub heard_of : List ℕ → List ℕ → List ℕ → List ℕ → List ℕ → Heard
 heard_of s t r lent out = heard_by (decode_of s) (length t) (length r) (length lent) (length out)
@@ -168,9 +166,9 @@ new_state s n = pick (eqb (length s) state_length) (encode (idle (mark.given n))
 abbrev pub new_step : List ℕ → ℕ
 new_step s = pick (eqb (length s) state_length) (answer_step 0 0 0) (answer_step 34 0 0)
 
-abbrev pub dirty_decoded : Decoded → ℕ
-dirty_decoded Nothing = answer_step 34 0 0
-dirty_decoded (State q) = answer_step 0 0 q.mark
+abbrev pub dirty_decoded : Option Session → ℕ
+dirty_decoded None = answer_step 34 0 0
+dirty_decoded (Some q) = answer_step 0 0 q.mark
 
 abbrev pub dirty_step : List ℕ → ℕ
 dirty_step s = dirty_decoded (decode_of s)

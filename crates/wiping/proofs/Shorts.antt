@@ -31,7 +31,6 @@ use Rattle.session.specs.declared.session.Session.{Session}
 use Rattle.numbers.specs.Flat.{scrub_code, scrub_place, stage_tag, stage_code, stage_place, flatten}
 use Rattle.numbers.specs.declared.flat.Flat.{Flat}
 use Rattle.state.specs.Bytes.{bytes_of, flat_of, decode_flat, decode_of}
-use Rattle.state.specs.declared.decode.Decoded.TheVariants.{State}
 use Rattle.kept.proofs.Decode.{flat_decoded}
 use Rattle.telling.specs.Step.{transfer_step, padded, ask_step, AskFits}
 use Rattle.telling.proofs.Frames.{ask-step, put_all, put_frame}
@@ -121,7 +120,7 @@ module _ (f : Flat) (s : Scrub) (w : wipes f.stage f.code.which ≡ true) (e : f
   flat_sound : sound (wiping f f.rows s) ≡ true
   flat_sound = both_so _ _ (le-leb f.mark 8192 inside) (stage_sane f.mark f.rows s sane f.stage f.code.which w)
 
-  flat_wipes : decode_flat f ≡ State (wiping f f.rows s)
+  flat_wipes : decode_flat f ≡ Some (wiping f f.rows s)
   flat_wipes = ap decode_flat flat_own ∙ flat_decoded (wiping f f.rows s) flat_sound
 
 fit_all : (q : Session) (st : Stage) (t r lent out : ℕ) → 19 ≤ t → 64 ≤ r → lent ≡ q.lent → out ≡ out_of st → misfit q st t r lent out ≡ false
@@ -129,10 +128,10 @@ fit_all q st t r lent out ht hr el eo = rw (le-ltb t 19 ht, le-ltb r 64 hr, eq-e
 
 module _ (l t r lent out : List ℕ) (ack : ℕ) (long : length l ≡ 20) (ht : 19 ≤ length t) (hr : 64 ≤ length r) (hl : length lent ≡ 0) (ho : length out ≡ 0)
     (yes : not (eqb ack 0) ≡ true) where
-  heard-is : (q : Session) (st : Stage) → decode_flat (flat_of l) ≡ State q → q.now ≡ Some st → q.lent ≡ 0 → out_of st ≡ 0
+  heard-is : (q : Session) (st : Stage) → decode_flat (flat_of l) ≡ Some q → q.now ≡ Some st → q.lent ≡ 0 → out_of st ≡ 0
       → heard_by (decode_of l) (length t) (length r) (length lent) (length out) ≡ Goes q.mark q.rows st
   heard-is q st d o z k =
-      let n : decode_of l ≡ State q = rw (eq-eqb (length l) 20 long) d in
+      let n : decode_of l ≡ Some q = rw (eq-eqb (length l) 20 long) d in
       let a : misfit q st (length t) (length r) (length lent) (length out) ≡ false = fit_all q st (length t) (length r) (length lent) (length out) ht hr (hl ∙ sym z) (ho ∙ sym k) in
       rw (n, o, a)
 
@@ -142,7 +141,7 @@ module _ (l t r lent out : List ℕ) (ack : ℕ) (long : length l ≡ 20) (ht : 
       let s = v.from in
       let st = wipe_stage f.stage f.code.which s in
       let o = v.onto in
-      let d : decode_flat (flat_of l) ≡ State (wiping f f.rows s) = ap decode_flat (sym ef) ∙ flat_wipes f s w e inside v.fits o.sane in
+      let d : decode_flat (flat_of l) ≡ Some (wiping f f.rows s) = ap decode_flat (sym ef) ∙ flat_wipes f s w e inside v.fits o.sane in
       let hd = heard-is (wiping f f.rows s) st d refl refl (no_out s f.stage f.code.which w) in
       let k : f.rows + counted (stage_ask (length lent) st) true ≡ n = ap (λ (c : ℕ). f.rows + c) (count-is (length lent) s f.stage f.code.which w) ∙ sym o.count in
       let u = step_is lent r out f.mark s next o.step f.stage f.code.which w in
