@@ -16,11 +16,7 @@ fn decode_flat(f: Flat) -> Option<Session>
     ensures { result ≡ decode_flat f }
 {
     let s = session_from(f);
-    if own(f) & sound(s) {
-        Some(s)
-    } else {
-        None
-    }
+    if own(f) & sound(s) { Some(s) } else { None }
 }
 
 // The session that the bytes are a state of.
