@@ -8,7 +8,7 @@ use machine::switch::Switch;
 use machine::wait::Wait;
 use numbers::flat::{Code, Flat, Place};
 use password::Open;
-use session::session::{Now, Session};
+use session::session::Session;
 use setup::setup::{Job, Setup};
 use stages::stage::Stage;
 use storing::Store;
@@ -241,7 +241,7 @@ pub fn flatten(s: Session) -> Flat
 {
     let now = s.now;
     match now {
-        Now::Idle => flat(1, code(0, 0, 0, 0), place(0, 0, 0, 0), s),
-        Now::Open(st) => flat(stage_tag(st), stage_code(st), stage_place(st), s),
+        None => flat(1, code(0, 0, 0, 0), place(0, 0, 0, 0), s),
+        Some(st) => flat(stage_tag(st), stage_code(st), stage_place(st), s),
     }
 }

@@ -2,7 +2,7 @@
 
 // What a machine is at: its tag, the tag of the machine inside it, a choice (which byte, on or off, stuck, alike), and how many
 // polls or tries are left.
-#[derive(Clone, Copy)]
+#[derive(Clone, Copy, PartialEq, Eq)]
 pub struct Code {
     pub phase: u8,
     pub inner: u8,
@@ -11,7 +11,7 @@ pub struct Code {
 }
 
 // Where it is, and which rows are still to be programmed.
-#[derive(Clone, Copy)]
+#[derive(Clone, Copy, PartialEq, Eq)]
 pub struct Place {
     pub bits: u8,
     pub left: usize,

@@ -6,7 +6,7 @@ ghost use Rattle.numbers.specs.Flat.{no_code, no_place, write_code, write_place,
 ghost use Rattle.numbers.specs.From.{write_from, start_from, end_from, session_from};
 ghost use Rattle.state.specs.Bytes.{same_code, same_place, same_flat, same_stage};
 
-use agreeing::{nowhere, same_code, same_place};
+use agreeing::nowhere;
 use flattening::{bit, code, place, setup_code, switch_code, wait_code, write_code, write_place};
 use midway::{scrub_own, whole_own};
 use numbers::flat::{Code, Flat, Place};
@@ -16,13 +16,13 @@ fn write_own(c: Code, p: Place) -> bool
     ensures { result ≡ (same_code (write_code (write_from c p)) c && same_place (write_place (write_from c p)) p) }
 {
     let w = write_from(c, p);
-    same_code(write_code(w), c) & same_place(write_place(w), p)
+    (write_code(w) == c) & (write_place(w) == p)
 }
 
 fn read_own(c: Code, p: Place) -> bool
     ensures { result ≡ (same_code no_code c && same_place (record { bits = 0; left = 0; at = p.at; end = p.end; row = 0 }) p) }
 {
-    same_code(code(0, 0, 0, 0), c) & same_place(place(0, p.at, p.end, 0), p)
+    (code(0, 0, 0, 0) == c) & (place(0, p.at, p.end, 0) == p)
 }
 
 // Between two calls.

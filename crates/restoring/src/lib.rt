@@ -8,7 +8,7 @@ use machine::switch::Switch;
 use machine::wait::Wait;
 use numbers::flat::{Code, Flat, Place};
 use password::Open;
-use session::session::{Now, Session};
+use session::session::Session;
 use setup::setup::{Job, Setup};
 use stages::stage::Stage;
 use storing::Store;
@@ -231,19 +231,19 @@ fn end_from(tag: u8, c: Code, p: Place) -> Stage
     Stage::FinishWipe(c.which == 1, scrub_from(c, p))
 }
 
-fn now_from(tag: u8, c: Code, p: Place) -> Now
+fn now_from(tag: u8, c: Code, p: Place) -> Option<Stage>
     ensures { result ≡ now_from tag c p }
 {
     if tag < 2 {
-        return Now::Idle;
+        return None;
     }
     if tag < 8 {
-        return Now::Open(start_from(tag, c, p));
+        return Some(start_from(tag, c, p));
     }
     if tag < 14 {
-        return Now::Open(whole_from(tag, c, p));
+        return Some(whole_from(tag, c, p));
     }
-    Now::Open(end_from(tag, c, p))
+    Some(end_from(tag, c, p))
 }
 
 pub fn session_from(f: Flat) -> Session

@@ -5,13 +5,6 @@ ghost use Rattle.session.specs.Steps.{idle};
 
 use stages::stage::Stage;
 
-// Whether a call is open, and what it waits on.
-#[derive(Clone, Copy)]
-pub enum Now {
-    Idle,
-    Open(Stage),
-}
-
 #[derive(Clone, Copy)]
 pub struct Session {
     pub mark: usize,
@@ -19,7 +12,8 @@ pub struct Session {
     pub rows: usize,
     // Bytes of data that were lent to it.
     pub lent: usize,
-    pub now: Now,
+    // What the open call waits on; none between two calls.
+    pub now: Option<Stage>,
 }
 
 impl Session {
@@ -45,7 +39,7 @@ impl Session {
             mark,
             rows: 0,
             lent: 0,
-            now: Now::Idle,
+            now: None,
         }
     }
 

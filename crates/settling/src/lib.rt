@@ -3,10 +3,10 @@
 
 ghost use Rattle.std.specs.Prelude.{◌≡◌, ◌++◌, ◌<◌, ◌≤◌, length, drop, replicate};
 ghost use Rattle.state.specs.Bytes.{encode};
-ghost use Rattle.telling.specs.Left.{Leaves, into_out, framed, waits_on, settled, started_left};
+ghost use Rattle.telling.specs.Left.{Leaves, into_out, framed, waits_on, settled};
 ghost use Rattle.protocol.specs.Answer.{answer_number, answer_value};
 ghost use Rattle.telling.specs.Step.{answer_step, transfer_step};
-ghost use Rattle.telling.specs.Fit.{StageFits, TurnFits, StartFits};
+ghost use Rattle.telling.specs.Fit.{StageFits, TurnFits};
 
 use decoding::encode;
 use framing::{frame, write_frame};
@@ -17,7 +17,6 @@ use session::session::Session;
 use slices::{copy_to, wide};
 use stages::stage::{Stage, Turn};
 use steps::stage_ask;
-use telling::opening::Opened;
 use telling::step::{ask_step, step};
 
 // Whether the bytes that a stage reads go into the caller's own buffer.
@@ -85,23 +84,5 @@ pub fn settle(
             clear(transfer, reply);
             answer(rows, a)
         }
-    }
-}
-
-// A call that was started: what its first turn leaves, or the refusal, which touches nothing.
-pub fn started(
-    state: &mut [u8],
-    transfer: &mut [u8],
-    reply: &mut [u8],
-    lent: &[u8],
-    o: Opened,
-    t: Turn,
-) -> u64
-    requires { StartFits o (length state.old) (length transfer.old) (length reply.old) (length lent.now) t }
-    ensures { Leaves (started_left o lent.now t state.old transfer.old reply.old) result state.new transfer.new reply.new }
-{
-    match o {
-        Opened::At(_) => settle(state, transfer, reply, lent, 0, t),
-        Opened::Not(n) => step(0, n, 0, 0),
     }
 }

@@ -10,7 +10,7 @@ use machine::switch::Switch;
 use machine::wait::Wait;
 use password::Open;
 use ranged::past;
-use session::session::{Now, Session};
+use session::session::Session;
 use setup::setup::Setup;
 use stages::stage::Stage;
 use storing::Store;
@@ -235,13 +235,13 @@ fn stage_sound(m: usize, rows: usize, lent: usize, st: Stage) -> bool
     }
 }
 
-fn now_sound(m: usize, rows: usize, lent: usize, now: Now) -> bool
+fn now_sound(m: usize, rows: usize, lent: usize, now: Option<Stage>) -> bool
     requires { m ≤ 8192 }
     ensures { result ≡ now_sound m rows lent now }
 {
     match now {
-        Now::Idle => plain(rows, lent),
-        Now::Open(st) => stage_sound(m, rows, lent, st),
+        None => plain(rows, lent),
+        Some(st) => stage_sound(m, rows, lent, st),
     }
 }
 
