@@ -22,17 +22,11 @@ pub fn scrub_own(which: u8, c: Code, p: Place) -> bool
 pub fn whole_own(tag: u8, c: Code, p: Place) -> bool
     ensures { result ≡ same_stage (whole_from tag c p) tag c p }
 {
-    if tag == 9 {
-        return nowhere(switch_code(switch_from(c)), c, p);
+    match tag {
+        8 | 10 | 11 => nowhere(code(0, 0, 0, 0), c, p),
+        9 => nowhere(switch_code(switch_from(c)), c, p),
+        12 => scrub_own(0, c, p),
+        13 => nowhere(setup_code(setup_from(c)), c, p),
+        _ => false,
     }
-    if tag == 12 {
-        return scrub_own(0, c, p);
-    }
-    if tag == 13 {
-        return nowhere(setup_code(setup_from(c)), c, p);
-    }
-    if (tag == 8) | (tag == 10) | (tag == 11) {
-        return nowhere(code(0, 0, 0, 0), c, p);
-    }
-    false
 }

@@ -39,44 +39,28 @@ fn idle_own(tag: u8, c: Code, p: Place) -> bool
 fn start_own(tag: u8, c: Code, p: Place) -> bool
     ensures { result ≡ same_stage (start_from tag c p) tag c p }
 {
-    if tag == 2 {
-        return nowhere(code(0, 0, 0, 0), c, p);
+    match tag {
+        2 => nowhere(code(0, 0, 0, 0), c, p),
+        3 => nowhere(setup_code(setup_from(c)), c, p),
+        4 => nowhere(wait_code(0, 0, wait_from(c)), c, p),
+        5 => read_own(c, p),
+        6 => write_own(c, p),
+        7 => nowhere(switch_code(switch_from(c)), c, p),
+        _ => false,
     }
-    if tag == 3 {
-        return nowhere(setup_code(setup_from(c)), c, p);
-    }
-    if tag == 4 {
-        return nowhere(wait_code(0, 0, wait_from(c)), c, p);
-    }
-    if tag == 5 {
-        return read_own(c, p);
-    }
-    if tag == 6 {
-        return write_own(c, p);
-    }
-    if tag == 7 {
-        return nowhere(switch_code(switch_from(c)), c, p);
-    }
-    false
 }
 
 // Stages 14 to 18.
 fn end_own(tag: u8, c: Code, p: Place) -> bool
     ensures { result ≡ same_stage (end_from tag c p) tag c p }
 {
-    if (tag == 14) | (tag == 16) {
-        return nowhere(switch_code(switch_from(c)), c, p);
+    match tag {
+        14 | 16 => nowhere(switch_code(switch_from(c)), c, p),
+        15 => nowhere(code(0, 0, 0, 0), c, p),
+        17 => nowhere(code(0, 0, bit(c.which == 1), 0), c, p),
+        18 => scrub_own(bit(c.which == 1), c, p),
+        _ => false,
     }
-    if tag == 15 {
-        return nowhere(code(0, 0, 0, 0), c, p);
-    }
-    if tag == 17 {
-        return nowhere(code(0, 0, bit(c.which == 1), 0), c, p);
-    }
-    if tag == 18 {
-        return scrub_own(bit(c.which == 1), c, p);
-    }
-    false
 }
 
 pub fn own(f: Flat) -> bool
@@ -85,14 +69,10 @@ pub fn own(f: Flat) -> bool
     let tag = f.stage;
     let c = f.code;
     let p = f.place;
-    if tag < 2 {
-        return idle_own(tag, c, p);
+    match tag {
+        0..=1 => idle_own(tag, c, p),
+        2..=7 => start_own(tag, c, p),
+        8..=13 => whole_own(tag, c, p),
+        _ => end_own(tag, c, p),
     }
-    if tag < 8 {
-        return start_own(tag, c, p);
-    }
-    if tag < 14 {
-        return whole_own(tag, c, p);
-    }
-    end_own(tag, c, p)
 }
