@@ -6,9 +6,9 @@ ghost use Rattle.protocol.specs.Mark.{wipe_end};
 ghost use Rattle.stages.specs.Turns.{wipe_turn, wipe_start};
 
 use chunks::scrub_new;
-use protocol::answer::Answer;
+use protocol::answer::{Answer, Progress};
 use stages::stage::{Stage, Turn};
-use wipe::scrub::Scrubbed;
+use wipe::scrub::Scrub;
 
 // Where a wipe ends: the mark up to the end of its row. The part ends with a row, so that this lies inside it.
 pub fn wipe_end(m: usize) -> usize
@@ -19,13 +19,13 @@ pub fn wipe_end(m: usize) -> usize
 }
 
 // A wipe that is done leaves nothing: the mark is 0.
-pub fn wipe_turn(m: usize, x: Scrubbed) -> Turn
+pub fn wipe_turn(m: usize, x: Progress<Scrub>) -> Turn
     ensures { result ≡ wipe_turn m x }
 {
     match x {
-        Scrubbed::More(s) => Turn::Open(m, Stage::Wipe(s)),
-        Scrubbed::Done => Turn::Over(0, Answer::Done),
-        Scrubbed::Not(e) => Turn::Over(m, Answer::Not(e)),
+        Ok(Some(s)) => Turn::Open(m, Stage::Wipe(s)),
+        Ok(None) => Turn::Over(0, Ok(Answer::Done)),
+        Err(e) => Turn::Over(m, Err(e)),
     }
 }
 

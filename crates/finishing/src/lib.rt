@@ -6,28 +6,28 @@ ghost use Rattle.stages.specs.Turns.{wrote_byte, first_answer, finish_turn, fini
 
 use chunks::scrub_new;
 use clearing::wipe_end;
-use protocol::answer::{Answer, TagError};
+use protocol::answer::{Answer, Progress, TagError};
 use stages::stage::{Stage, Turn};
-use wipe::scrub::Scrubbed;
+use wipe::scrub::Scrub;
 
 // The first refusal is the one returned.
-fn first_answer(stuck: bool, a: Answer) -> Answer
+fn first_answer(stuck: bool, a: Result<Answer, TagError>) -> Result<Answer, TagError>
     ensures { result ≡ first_answer stuck a }
 {
     if stuck {
-        Answer::Not(TagError::RfStuck)
+        Err(TagError::RfStuck)
     } else {
         a
     }
 }
 
-pub fn finish_turn(m: usize, stuck: bool, x: Scrubbed) -> Turn
+pub fn finish_turn(m: usize, stuck: bool, x: Progress<Scrub>) -> Turn
     ensures { result ≡ finish_turn m stuck x }
 {
     match x {
-        Scrubbed::More(s) => Turn::Open(m, Stage::FinishWipe(stuck, s)),
-        Scrubbed::Done => Turn::Over(0, first_answer(stuck, Answer::Done)),
-        Scrubbed::Not(e) => Turn::Over(m, first_answer(stuck, Answer::Not(e))),
+        Ok(Some(s)) => Turn::Open(m, Stage::FinishWipe(stuck, s)),
+        Ok(None) => Turn::Over(0, first_answer(stuck, Ok(Answer::Done))),
+        Err(e) => Turn::Over(m, first_answer(stuck, Err(e))),
     }
 }
 
