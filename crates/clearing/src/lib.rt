@@ -11,6 +11,7 @@ use stages::stage::{Stage, Turn};
 use wipe::scrub::Scrub;
 
 // Where a wipe ends: the mark up to the end of its row. The part ends with a row, so that this lies inside it.
+#[tactic(auto, unfolding(protocol::specs::Mark::wipe_end))]
 pub fn wipe_end(m: usize) -> usize
     requires { m ≤ 8192 }
     ensures { (result ≡ wipe_end m) × (result ≤ 8192) }
@@ -19,6 +20,7 @@ pub fn wipe_end(m: usize) -> usize
 }
 
 // A wipe that is done leaves nothing: the mark is 0.
+#[tactic(auto, unfolding(protocol::specs::Mark::none))]
 pub fn wipe_turn(m: usize, x: Progress<Scrub>) -> Turn
     ensures { result ≡ wipe_turn m x }
 {

@@ -21,6 +21,7 @@ fn first_answer(stuck: bool, a: Result<Answer, TagError>) -> Result<Answer, TagE
     }
 }
 
+#[tactic(auto, unfolding(protocol::specs::Mark::none))]
 pub fn finish_turn(m: usize, stuck: bool, x: Progress<Scrub>) -> Turn
     ensures { result ≡ finish_turn m stuck x }
 {
@@ -46,6 +47,7 @@ pub fn wrote(ack: bool, v: u8) -> bool
 }
 
 // A phone's write may be anywhere: the wipe then reaches over the whole part.
+#[tactic(auto, unfolding(protocol::specs::Mark::whole))]
 pub fn status_turn(m: usize, stuck: bool, ack: bool, v: u8) -> Turn
     requires { m ≤ 8192 }
     ensures { result ≡ status_turn m stuck ack v }

@@ -34,6 +34,7 @@ pub fn read_user(m: usize, at: usize, n: usize) -> Turn
 }
 
 // The mark once n bytes at `at` may be non-zero.
+#[tactic(auto, unfolding(protocol::specs::Mark::widened))]
 fn widened(m: usize, at: usize, n: usize) -> usize
     requires { at + n ≤ 8192 }
     ensures { result ≡ widened m at (at + n) }

@@ -29,6 +29,7 @@ pub fn whole_turn(m: usize, x: Progress<Switch, Stuck>) -> Turn
     }
 }
 
+#[tactic(auto, unfolding(protocol::specs::Mark::is_none))]
 pub fn begin_off_turn(m: usize, x: Progress<Switch, Stuck>) -> Turn
     requires { m ≤ 8192 }
     ensures { result ≡ begin_off_turn m x }
