@@ -22,7 +22,7 @@ pub fn value(a: Result<Answer, TagError>) -> u8
 {
     match a {
         Ok(Answer::Wrote(true)) => 1,
-        Ok(_) => 0,
+        Ok(Answer::Wrote(false) | Answer::Done) => 0,
         Err(_) => 0,
     }
 }
