@@ -16,14 +16,13 @@
 --   Moves f got o           == a state with the numbers f goes on to o. AnyMoves: whatever stands in the reply buffer
 --   short_left f s t r       == what a step leaves whose state has the numbers f, and that waits on the transfer of s
 --   Short l t r lent out ack n == a reply leaves what n says
-use Rattle.std.specs.Prelude.{◌≡◌, Bool, true, false, ◌&&◌, ◌||◌, List, [], ◌++◌, ℕ, ◌+◌, ◌≤◌, eqb, ltb, length, drop}
+use Rattle.std.specs.Prelude.{◌≡◌, Bool, true, false, ◌&&◌, ◌||◌, List, [], ◌++◌, ℕ, ◌+◌, ◌≤◌, eqb, ltb, length, drop, Ok, Err, Some, None}
+use Rattle.protocol.specs.Answer.{Progress}
 use Rattle.slices.specs.Pick.{pick}
 use Rattle.protocol.specs.Transfer.{sent}
 use Rattle.machine.specs.Ask.{meant}
 use Rattle.wipe.specs.Scrub.{scrub_ask, scrub_step}
 use Rattle.wipe.specs.declared.scrub.Scrub.{Scrub}
-use Rattle.wipe.specs.declared.scrub.Scrubbed.{Scrubbed}
-use Rattle.wipe.specs.declared.scrub.Scrubbed.TheVariants as C
 use Rattle.stages.specs.declared.stage.Stage.{Stage}
 use Rattle.stages.specs.declared.stage.Stage.TheVariants as G
 use Rattle.session.specs.Sound.{scrub_sound}
@@ -58,10 +57,10 @@ moved f rows s =
 abbrev pub bare : Code → Place → Bool
 bare c p = eqb c.inner 0 && eqb c.count 0 && eqb p.bits 0 && eqb p.row 0
 
-abbrev pub led_of : ℕ → Scrubbed → Onward
-led_of rows (C.More s) = O.To rows s
-led_of rows C.Done = O.Not
-led_of rows (C.Not e) = O.Not
+abbrev pub led_of : ℕ → Progress Scrub → Onward
+led_of rows (Ok (Some s)) = O.To rows s
+led_of rows (Ok None) = O.Not
+led_of rows (Err e) = O.Not
 
 abbrev pub noted : Flat → Onward → Next
 noted f (O.To n s) = X.To (moved f n s) s
@@ -69,7 +68,7 @@ noted f O.Not = X.Not
 
 pub record Onto (m rows : ℕ) (s : Scrub) (got : List ℕ) (n : ℕ) (next : Scrub) : Type 0 where
   pub sane : scrub_sound m rows s ≡ true
-  pub step : scrub_step s true got ≡ C.More next
+  pub step : scrub_step s true got ≡ Ok (Some next)
   pub count : n ≡ rows + counted (scrub_ask s) true
 
 abbrev pub Leads : ℕ → ℕ → Scrub → List ℕ → Onward → Type 0
