@@ -28,8 +28,13 @@ pub fn heard_at(
 ) -> Result<Heard, Misuse>
     ensures { result ≡ heard_by (decode_of state.now) transfer reply lent out }
 {
-    let s = decode(state).ok_or(Misuse::NoState)?;
-    let stage = s.now.ok_or(Misuse::NoCallOpen)?;
+    // `ok_or` and `?` in place of the two tests took 340 bytes more of stack on a Cortex-M4: 1,496, and the bar is 1,280.
+    let Some(s) = decode(state) else {
+        return Err(Misuse::NoState);
+    };
+    let Some(stage) = s.now else {
+        return Err(Misuse::NoCallOpen);
+    };
     if misfit(s, stage, transfer, reply, lent, out) {
         return Err(Misuse::WrongLength);
     }

@@ -7,14 +7,13 @@ use native.Mathlib.Omega.{arith}
 use lib.ListN.{length, replicate, length-replicate}
 use lib.Dec.{eqb, leb}
 use borrow.Author.Tests.{eqb-true, not-true}
-use Rattle.std.specs.Prelude.{Option, Some, None}
+use Rattle.std.specs.Prelude.{Option, Some, None, Err}
 use Rattle.slices.specs.Pick.{pick}
 use Rattle.slices.proofs.Truths.{both}
 use Rattle.protocol.specs.Mark.{Mark, wipe_end}
 use Rattle.protocol.specs.Write.{past}
 use Rattle.protocol.specs.Call.{Call}
 use Rattle.protocol.specs.Call as call
-use Rattle.protocol.specs.declared.answer.Answer.TheVariants as P
 use Rattle.protocol.specs.declared.answer.TagError.TheVariants.{NotTaken}
 use Rattle.machine.specs.Wait.{wait_new}
 use Rattle.machine.specs.Switch.{switch_new}
@@ -68,7 +67,7 @@ module _ (m : Mark) (h : m ≤ 8192) where
       (starts call.prepare (G.Prepare I.Identify) refl refl) s e
 
   reads : (a k : ℕ) → past a k ≡ false → Here (G.ReadUser a k)
-  reads a k e = starts (call.read_user a k) (G.ReadUser a k) refl (ap (λ (b : Bool). pick b (D.Over m (P.Not NotTaken)) (D.Open m (G.ReadUser a k))) e)
+  reads a k e = starts (call.read_user a k) (G.ReadUser a k) refl (ap (λ (b : Bool). pick b (D.Over m (Err NotTaken)) (D.Open m (G.ReadUser a k))) e)
 
   switches : (s : Switch) → switch_sound s ≡ true → Here (G.Switching s)
   switches s e =

@@ -7,18 +7,19 @@ ghost use Rattle.wiping.specs.Onward.{led_of, Leads, AnyLeads};
 use chunks::reread_step;
 use found::{next_row, read_step};
 use machine::wait::Wait;
+use protocol::answer::Progress;
 use session::session::Session;
 use sound::{chunk_stop, row_sound};
-use wipe::scrub::{Chunk, Rows, Scrub, Scrubbed};
+use wipe::scrub::{Chunk, Rows, Scrub};
 use wiping::after::Onward;
 
-fn led(rows: usize, s: Scrubbed) -> Option<Onward>
+fn led(rows: usize, s: Progress<Scrub>) -> Option<Onward>
     ensures { result ≡ led_of rows s }
 {
     match s {
-        Scrubbed::More(wipe) => Some(Onward { rows, wipe }),
-        Scrubbed::Done => None,
-        Scrubbed::Not(_) => None,
+        Ok(Some(wipe)) => Some(Onward { rows, wipe }),
+        Ok(None) => None,
+        Err(_) => None,
     }
 }
 

@@ -7,7 +7,7 @@ ghost use Rattle.numbers.specs.From.{write_from, start_from, end_from, session_f
 ghost use Rattle.state.specs.Bytes.{same_code, same_place, same_flat, same_stage};
 
 use agreeing::nowhere;
-use flattening::{bit, code, place, setup_code, switch_code, wait_code, write_code, write_place};
+use flattening::{code, place, setup_code, switch_code, wait_code, write_code, write_place};
 use midway::{scrub_own, whole_own};
 use numbers::flat::{Code, Flat, Place};
 use restoring::{setup_from, switch_from, wait_from, write_from};
@@ -57,8 +57,8 @@ fn end_own(tag: u8, c: Code, p: Place) -> bool
     match tag {
         14 | 16 => nowhere(switch_code(switch_from(c)), c, p),
         15 => nowhere(code(0, 0, 0, 0), c, p),
-        17 => nowhere(code(0, 0, bit(c.which == 1), 0), c, p),
-        18 => scrub_own(bit(c.which == 1), c, p),
+        17 => nowhere(code(0, 0, u8::from(c.which == 1), 0), c, p),
+        18 => scrub_own(u8::from(c.which == 1), c, p),
         _ => false,
     }
 }

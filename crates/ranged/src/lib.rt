@@ -9,7 +9,7 @@ ghost use Rattle.stages.specs.Turns.{start_of};
 
 use machine::switch::Switch;
 use programming::write_new;
-use protocol::answer::{Answer, TagError};
+use protocol::answer::TagError;
 use stages::stage::{Stage, Turn};
 use turns::write_turn;
 
@@ -27,13 +27,14 @@ pub fn read_user(m: usize, at: usize, n: usize) -> Turn
     ensures { result ≡ start_of (call.read_user at n) m }
 {
     if past(at, n) {
-        Turn::Over(m, Answer::Not(TagError::NotTaken))
+        Turn::Over(m, Err(TagError::NotTaken))
     } else {
         Turn::Open(m, Stage::ReadUser(at, n))
     }
 }
 
 // The mark once n bytes at `at` may be non-zero.
+#[tactic(auto, unfolding(protocol::specs::Mark::widened))]
 fn widened(m: usize, at: usize, n: usize) -> usize
     requires { at + n ≤ 8192 }
     ensures { result ≡ widened m at (at + n) }
@@ -48,7 +49,7 @@ pub fn write(m: usize, at: usize, lent: &[u8]) -> Turn
 {
     let n = lent.len();
     if past(at, n) {
-        return Turn::Over(m, Answer::Not(TagError::NotTaken));
+        return Turn::Over(m, Err(TagError::NotTaken));
     }
     write_turn(widened(m, at, n), write_new(at, n))
 }
@@ -59,6 +60,6 @@ pub fn read_whole(m: usize, n: usize) -> Turn
     if n == 8192 {
         Turn::Open(m, Stage::WholeOff(Switch::new(false)))
     } else {
-        Turn::Over(m, Answer::Not(TagError::NotTaken))
+        Turn::Over(m, Err(TagError::NotTaken))
     }
 }

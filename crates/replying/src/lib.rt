@@ -72,6 +72,7 @@ fn by_way(
 
 // A reply: 0 for refused, any other number for acknowledged. A clean chunk is looked for first; the rest is called from two places, so that
 // the compiler leaves it out of here, and with it what it keeps on the stack.
+// The buffers are no struct: C lends each by itself, so that each export would have to make one.
 pub fn reply(
     state: &mut [u8],
     transfer: &mut [u8],

@@ -1,4 +1,5 @@
-// The session that numbers are, whatever they are: `flatten` then tells whether they are its own.
+// The session that numbers are, whatever they are: `flatten` then tells whether they are its own. Kinds are numbers here because C lends a
+// state as twenty bytes.
 #![tactic(auto)]
 
 ghost use Rattle.std.specs.Prelude.{◌≡◌};

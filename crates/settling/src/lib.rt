@@ -11,7 +11,7 @@ ghost use Rattle.telling.specs.Fit.{StageFits, TurnFits};
 use decoding::encode;
 use framing::{frame, write_frame};
 use outcomes::{number, value};
-use protocol::answer::Answer;
+use protocol::answer::{Answer, TagError};
 use results::entered;
 use session::session::Session;
 use slices::{copy_to, wide};
@@ -59,7 +59,7 @@ fn clear(transfer: &mut [u8], reply: &mut [u8])
     copy_to(reply, 0, &[0u8; 64]);
 }
 
-fn answer(rows: usize, a: Answer) -> u64
+fn answer(rows: usize, a: Result<Answer, TagError>) -> u64
     requires { rows < 65536 }
     ensures { result ≡ answer_step (answer_number a) rows (answer_value a) }
 {

@@ -1,7 +1,7 @@
 // What is under way in a session.
 use machine::switch::Switch;
 use machine::wait::Wait;
-use protocol::answer::Answer;
+use protocol::answer::{Answer, TagError};
 use setup::setup::Setup;
 use wipe::scrub::Scrub;
 use writing::write::Write;
@@ -38,5 +38,5 @@ pub enum Stage {
 #[derive(Clone, Copy)]
 pub enum Turn {
     Open(usize, Stage),
-    Over(usize, Answer),
+    Over(usize, Result<Answer, TagError>),
 }

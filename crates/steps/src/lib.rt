@@ -55,7 +55,7 @@ pub fn stage_step(st: Stage, m: usize, ack: bool, reply: &[u8], lent: &[u8], out
         Stage::ReadUser(_, _) => read_turn(m, ack),
         Stage::Write(w) => write_turn(m, programming::step(w, ack, reply, lent)),
         Stage::Switching(s) => switch_turn(m, flipping::step(s, ack, reply[0])),
-        Stage::RfWrote => Turn::Over(m, Answer::Wrote(wrote(ack, reply[0]))),
+        Stage::RfWrote => Turn::Over(m, Ok(Answer::Wrote(wrote(ack, reply[0])))),
         Stage::WholeOff(s) => whole_turn(m, flipping::step(s, ack, reply[0])),
         Stage::WholeStatus => Turn::Open(m, Stage::WholeRead),
         Stage::WholeRead => whole_read_turn(m, ack, out),

@@ -1,6 +1,5 @@
 // scrub: the wipe, chunk by chunk.
 use machine::wait::Wait;
-use protocol::answer::TagError;
 
 // The chunk at `at` of a wipe that ends at `end`, with the chunks left after it.
 #[derive(Clone, Copy)]
@@ -25,11 +24,4 @@ pub enum Scrub {
     Row(Chunk, Rows),
     Wait(Chunk, Rows, Wait),
     Reread(Chunk),
-}
-
-#[derive(Clone, Copy)]
-pub enum Scrubbed {
-    More(Scrub),
-    Done,
-    Not(TagError),
 }

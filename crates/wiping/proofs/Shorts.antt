@@ -8,7 +8,7 @@ use native.Mathlib.Omega.{arith}
 use lib.Dec.{eqb, ltb, leb}
 use lib.ListN.{length, drop}
 use borrow.Author.Tests.{eqb-true, ltb-true, ltb-false, leb-true, not-false, le-leb, le-ltb, eq-eqb}
-use Rattle.std.specs.Prelude.{Some, Option, None, Ok}
+use Rattle.std.specs.Prelude.{Option, Some, None, Ok}
 use Rattle.slices.specs.Bytes.{Wrote}
 use Rattle.slices.proofs.Truths.{both, both_so, either, either_no}
 use Rattle.protocol.specs.Transfer.{Transfer, sent}
@@ -20,7 +20,6 @@ use Rattle.machine.specs.declared.wait.Wait.TheVariants as W
 use Rattle.wipe.specs.Scrub.{scrub_ask, scrub_step}
 use Rattle.wipe.specs.declared.scrub.Scrub.{Scrub}
 use Rattle.wipe.specs.declared.scrub.Scrub.TheVariants as C
-use Rattle.wipe.specs.declared.scrub.Scrubbed.TheVariants.{More}
 use Rattle.stages.specs.Turns.{stage_ask, stage_step, wipe_turn, finish_turn}
 use Rattle.stages.specs.Able.{got_by}
 use Rattle.stages.specs.declared.stage.Stage.{Stage}
@@ -72,7 +71,7 @@ no_out s = by_tag (λ (t w : ℕ). out_of (wipe_stage t w s) ≡ 0) refl refl re
 count-is : (n : ℕ) (s : Scrub) (tag which : ℕ) → wipes tag which ≡ true → counted (stage_ask n (wipe_stage tag which s)) true ≡ counted (scrub_ask s) true
 count-is n s = by_tag (λ (t w : ℕ). counted (stage_ask n (wipe_stage t w s)) true ≡ counted (scrub_ask s) true) refl refl refl
 
-step_is : (lent r out : List ℕ) (m : ℕ) (s next : Scrub) → scrub_step s true r ≡ More next → (tag which : ℕ) → wipes tag which ≡ true
+step_is : (lent r out : List ℕ) (m : ℕ) (s next : Scrub) → scrub_step s true r ≡ Ok (Some next) → (tag which : ℕ) → wipes tag which ≡ true
     → stage_step lent m (wipe_stage tag which s) true (got_by (wipe_stage tag which s) r out) ≡ Open m (wipe_stage tag which next)
 step_is lent r out m s next e =
     by_tag (λ (t w : ℕ). stage_step lent m (wipe_stage t w s) true (got_by (wipe_stage t w s) r out) ≡ Open m (wipe_stage t w next))

@@ -6,7 +6,8 @@ use Prim.Native.Nat.{ℕ, zero, suc, ◌+◌, ◌*◌, ◌/◌, ◌%◌, ◌<◌
 use native.Mathlib.Omega.{arith}
 use lib.Dec.{eqb, ltb, leb}
 use borrow.Author.Tests.{eqb-true}
-use Rattle.std.specs.Prelude.{Option, Some, None}
+use Rattle.std.specs.Prelude.{Option, Some, None, Ok, Err}
+use Rattle.protocol.specs.Answer.{Progress}
 use Rattle.machine.specs.Wait.{wait_new}
 use Rattle.machine.specs.declared.wait.Wait.{Wait}
 use Rattle.machine.specs.declared.wait.Wait.TheVariants as W
@@ -15,8 +16,6 @@ use Rattle.wipe.specs.declared.scrub.Chunk.{Chunk}
 use Rattle.wipe.specs.declared.scrub.Rows.{Rows}
 use Rattle.wipe.specs.declared.scrub.Scrub.{Scrub}
 use Rattle.wipe.specs.declared.scrub.Scrub.TheVariants as C
-use Rattle.wipe.specs.declared.scrub.Scrubbed.{Scrubbed}
-use Rattle.wipe.specs.declared.scrub.Scrubbed.TheVariants as D
 use Rattle.session.specs.Sound.{chunk_stop, row_sound, scrub_sound}
 use Rattle.session.specs.Steps.{counted}
 use Rattle.slices.proofs.Truths.{both}
@@ -30,11 +29,11 @@ use Rattle.kept.proofs.Ables.{scrub_near}
 use Rattle.wiping.specs.Onward.{bare, led_of, Leads, AnyLeads, Fits, Moves, AnyMoves}
 use Rattle.wiping.specs.declared.after.Onward.{Onward}
 
-leads_from : (m rows : ℕ) (s : Scrub) (got : List ℕ) (x : Scrubbed) → scrub_sound m rows s ≡ true → counted (scrub_ask s) true ≡ 0 → scrub_step s true got ≡ x
+leads_from : (m rows : ℕ) (s : Scrub) (got : List ℕ) (x : Progress Scrub) → scrub_sound m rows s ≡ true → counted (scrub_ask s) true ≡ 0 → scrub_step s true got ≡ x
     → Leads m rows s got (led_of rows x)
-leads_from m rows s got (D.More next) h z e = record { sane = h; step = e; count = omega (arith, z) }
-leads_from m rows s got D.Done h z e = tt
-leads_from m rows s got (D.Not k) h z e = tt
+leads_from m rows s got (Ok (Some next)) h z e = record { sane = h; step = e; count = omega (arith, z) }
+leads_from m rows s got (Ok None) h z e = tt
+leads_from m rows s got (Err k) h z e = tt
 
 -- the tests of the four places that a wipe can be at
 pub read-sane : (m rows stop : ℕ) (p : Chunk) → stop ≡ chunk_stop m p → (ltb 0 stop && leb rows (p.at / 16)) ≡ true → scrub_sound m rows (C.Read p) ≡ true
@@ -67,14 +66,14 @@ rows_few m rows p r e =
 
 pub leads_row : (m rows : ℕ) (p : Chunk) (r : Rows) (w : Wait) → scrub_sound m rows (C.Row p r) ≡ true → w ≡ wait_new
     → AnyLeads m rows (C.Row p r) (Some (record { rows = rows + 1; wipe = C.Wait p r w }))
-leads_row m rows p r w h e got = record { sane = h; step = ap (λ (x : Wait). D.More (C.Wait p r x)) (sym e); count = refl }
+leads_row m rows p r w h e got = record { sane = h; step = ap (λ (x : Wait). Ok (Some (C.Wait p r x))) (sym e); count = refl }
 
 pub leads_poll : (m rows n : ℕ) (p : Chunk) (r : Rows) (s : Scrub) → scrub_sound m rows (C.Wait p r (W.Poll n)) ≡ true
     → s ≡ next_row p (r.row + 16) (bits r) → AnyLeads m rows (C.Wait p r (W.Poll n)) (Some (record { rows = rows; wipe = s }))
-leads_poll m rows n p r s h e got = record { sane = h; step = ap D.More (sym e); count = omega arith }
+leads_poll m rows n p r s h e got = record { sane = h; step = ap (λ (x : Scrub). Ok (Some x)) (sym e); count = omega arith }
 
 -- a step that programs nothing
-pub leads_led : (m rows : ℕ) (s : Scrub) (got : List ℕ) (x : Scrubbed) (o : Option Onward) → scrub_sound m rows s ≡ true → counted (scrub_ask s) true ≡ 0
+pub leads_led : (m rows : ℕ) (s : Scrub) (got : List ℕ) (x : Progress Scrub) (o : Option Onward) → scrub_sound m rows s ≡ true → counted (scrub_ask s) true ≡ 0
     → x ≡ scrub_step s true got → o ≡ led_of rows x → Leads m rows s got o
 leads_led m rows s got x o h z e eo = subst (Leads m rows s got) (sym eo) (leads_from m rows s got x h z (sym e))
 

@@ -16,14 +16,13 @@
 --   Moves f got o           == a state with the numbers f goes on to o. AnyMoves: whatever stands in the reply buffer
 --   short_left f s t r       == what a step leaves whose state has the numbers f, and that waits on the transfer of s
 --   Short l t r lent out ack n == a reply leaves what n says
-use Rattle.std.specs.Prelude.{◌≡◌, Bool, true, false, ◌&&◌, ◌||◌, List, [], ◌++◌, ℕ, ◌+◌, ◌≤◌, eqb, ltb, length, drop, Some, Option, None}
+use Rattle.std.specs.Prelude.{◌≡◌, Bool, true, false, ◌&&◌, ◌||◌, List, [], ◌++◌, ℕ, ◌+◌, ◌≤◌, eqb, ltb, length, drop, Option, Some, None, Ok, Err}
+use Rattle.protocol.specs.Answer.{Progress}
 use Rattle.slices.specs.Pick.{pick}
 use Rattle.protocol.specs.Transfer.{sent}
 use Rattle.machine.specs.Ask.{meant}
 use Rattle.wipe.specs.Scrub.{scrub_ask, scrub_step}
 use Rattle.wipe.specs.declared.scrub.Scrub.{Scrub}
-use Rattle.wipe.specs.declared.scrub.Scrubbed.{Scrubbed}
-use Rattle.wipe.specs.declared.scrub.Scrubbed.TheVariants as C
 use Rattle.stages.specs.declared.stage.Stage.{Stage}
 use Rattle.stages.specs.declared.stage.Stage.TheVariants as G
 use Rattle.session.specs.Sound.{scrub_sound}
@@ -55,10 +54,10 @@ moved f rows s =
 abbrev pub bare : Code → Place → Bool
 bare c p = eqb c.inner 0 && eqb c.count 0 && eqb p.bits 0 && eqb p.row 0
 
-abbrev pub led_of : ℕ → Scrubbed → Option Onward
-led_of rows (C.More s) = Some (record { rows = rows; wipe = s })
-led_of rows C.Done = None
-led_of rows (C.Not e) = None
+abbrev pub led_of : ℕ → Progress Scrub → Option Onward
+led_of rows (Ok (Some s)) = Some (record { rows = rows; wipe = s })
+led_of rows (Ok None) = None
+led_of rows (Err e) = None
 
 abbrev pub noted : Flat → Option Onward → Option Next
 noted f (Some o) = Some (record { flat = moved f o.rows o.wipe; wipe = o.wipe })
@@ -66,7 +65,7 @@ noted f None = None
 
 pub record Onto (m rows : ℕ) (s : Scrub) (got : List ℕ) (n : ℕ) (next : Scrub) : Type 0 where
   pub sane : scrub_sound m rows s ≡ true
-  pub step : scrub_step s true got ≡ C.More next
+  pub step : scrub_step s true got ≡ Ok (Some next)
   pub count : n ≡ rows + counted (scrub_ask s) true
 
 abbrev pub Leads : ℕ → ℕ → Scrub → List ℕ → Option Onward → Type 0

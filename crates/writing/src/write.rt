@@ -1,6 +1,5 @@
 // write: the bytes row by row, then every byte read back. The bytes are lent anew for each step.
 use machine::wait::Wait;
-use protocol::answer::TagError;
 
 // The rows of the bytes at `start`: `done` bytes are programmed, and `left` rows come after this one.
 #[derive(Clone, Copy)]
@@ -24,11 +23,4 @@ pub enum Write {
     Row(Piece),
     Wait(Piece, Wait),
     Check(Check),
-}
-
-#[derive(Clone, Copy)]
-pub enum Written {
-    More(Write),
-    Done,
-    Not(TagError),
 }
