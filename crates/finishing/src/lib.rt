@@ -14,11 +14,7 @@ use wipe::scrub::Scrub;
 fn first_answer(stuck: bool, a: Result<Answer, TagError>) -> Result<Answer, TagError>
     ensures { result ≡ first_answer stuck a }
 {
-    if stuck {
-        Err(TagError::RfStuck)
-    } else {
-        a
-    }
+    if stuck { Err(TagError::RfStuck) } else { a }
 }
 
 #[tactic(auto, unfolding(protocol::specs::Mark::none))]

@@ -29,12 +29,8 @@ fn wanted(on: bool, v: u8) -> bool
 fn looked(on: bool, n: u8, ack: bool, v: u8) -> Progress<Switch, Stuck>
     ensures { result ≡ looked on n ack v }
 {
-    if ack {
-        if wanted(on, v) {
-            Ok(None)
-        } else {
-            Ok(Some(Switch::Rest(on, n)))
-        }
+    if ack && wanted(on, v) {
+        Ok(None)
     } else {
         Ok(Some(Switch::Rest(on, n)))
     }
@@ -63,20 +59,16 @@ pub fn step(s: Switch, ack: bool, v: u8) -> Progress<Switch, Stuck>
     ensures { result ≡ switch_step s ack v }
 {
     match s {
-        Switch::Flip(on, n) => {
-            if ack {
-                Ok(Some(flipped(on, n)))
-            } else {
-                Ok(Some(Switch::Rest(on, n)))
-            }
-        }
-        Switch::Clear(n) => {
-            if ack {
-                Ok(Some(Switch::Look(true, n)))
-            } else {
-                Ok(Some(Switch::Rest(true, n)))
-            }
-        }
+        Switch::Flip(on, n) => Ok(Some(if ack {
+            flipped(on, n)
+        } else {
+            Switch::Rest(on, n)
+        })),
+        Switch::Clear(n) => Ok(Some(if ack {
+            Switch::Look(true, n)
+        } else {
+            Switch::Rest(true, n)
+        })),
         Switch::Look(on, n) => looked(on, n, ack, v),
         Switch::Rest(on, n) => {
             if n == 0 {

@@ -37,6 +37,7 @@ pub fn write_new(start: usize, len: usize) -> Progress<Write>
 }
 
 // The row after one that was waited out.
+#[tactic(auto, using(scan::proofs::Cutting::row_most))]
 fn next_piece(p: Piece, len: usize) -> Progress<Write>
     requires { (p.start + p.done < 70000) × (p.done ≤ len) × (len ≤ 8192) }
     ensures { result ≡ next_piece p len }

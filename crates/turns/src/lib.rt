@@ -1,4 +1,6 @@
 // Where a step of set-up, of waiting and of a write leads, in the call that it serves; and where a read does.
+// Each is a match of its own: it names the stage that its machine goes on in and what its end leads to. One function over all machines would
+// take both, a closure among them, and its clause would say less plainly what the closure gave.
 #![tactic(auto)]
 
 ghost use Rattle.std.specs.Prelude.{◌≡◌, length};
