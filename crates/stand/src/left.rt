@@ -4,6 +4,7 @@ ghost use Rattle.stand.specs.Left.{left_in};
 
 use crate::bench::Memory;
 
+#[tactic(auto, using(crate::proofs::Lefts::left_counts))]
 pub fn left(memory: &Memory) -> u64
     ensures { result ≡ left_in memory.now }
 {
