@@ -3,92 +3,70 @@
 
 use blocks::Message;
 use contents::Part;
-use lines::said;
-use lines::said::head;
+use lines::said::Said;
 use records::Record;
 use slices::front;
 use walk::Entry;
 
-fn text(out: &mut [u8], at: usize, image: &[u8], r: Record) -> usize {
+fn text(said: &mut Said, image: &[u8], r: Record) {
     match contents::text(image, r) {
         Part::At(place, len) => {
-            let a = said::text(out, at, b" text:");
-            said::bare_bytes(out, a, pieces::part(image, place, len))
+            said.text(b" text:");
+            said.bare_bytes(pieces::part(image, place, len));
         }
-        Part::Nothing => said::text(out, at, b" none"),
+        Part::Nothing => said.text(b" none"),
     }
 }
 
-fn uri(out: &mut [u8], at: usize, image: &[u8], r: Record) -> usize {
+fn uri(said: &mut Said, image: &[u8], r: Record) {
     let link = links::uri(image, r);
-    let rest = link.rest;
-    let n = link.prefix.len;
-    let bytes = link.prefix.bytes;
-    match rest {
+    match link.rest {
         Part::At(place, len) => {
-            let a = said::text(out, at, b" uri:");
-            let b = said::bare_bytes(out, a, front(&bytes, n));
-            let d = said::text(out, b, b":");
-            said::bare_bytes(out, d, pieces::part(image, place, len))
+            said.text(b" uri:");
+            said.bare_bytes(front(&link.prefix.bytes, link.prefix.len));
+            said.text(b":");
+            said.bare_bytes(pieces::part(image, place, len));
         }
-        Part::Nothing => said::text(out, at, b" none"),
+        Part::Nothing => said.text(b" none"),
     }
-}
-
-// A record's numbers and parts.
-fn parts(out: &mut [u8], at: usize, image: &[u8], r: Record) -> usize {
-    let a = said::bytes(out, at, kinds::kind(image, r));
-    let b = said::bytes(out, a, payloads::id(image, r));
-    said::bytes(out, b, payloads::payload(image, r))
 }
 
 // One record: format, last flag, type, id, payload, text, URI.
-fn record(out: &mut [u8], at: usize, image: &[u8], r: Record) -> usize {
-    let a = said::text(out, at, b" |");
-    let b = said::number(out, a, r.format as usize);
-    let d = said::number(out, b, r.last as usize);
-    let e = parts(out, d, image, r);
-    let h = text(out, e, image, r);
-    uri(out, h, image, r)
+fn record(said: &mut Said, image: &[u8], r: Record) {
+    said.text(b" |");
+    said.number(usize::from(r.format));
+    said.number(usize::from(r.last));
+    said.bytes(kinds::kind(image, r));
+    said.bytes(payloads::id(image, r));
+    said.bytes(payloads::payload(image, r));
+    text(said, image, r);
+    uri(said, image, r);
 }
 
 // The records from `from` on, and how the walk ended.
-fn walk(out: &mut [u8], at: usize, image: &[u8], from: usize, end: usize) -> usize {
-    let mut a = at;
+fn walk(said: &mut Said, image: &[u8], from: usize, end: usize) {
     let mut place = from;
-    let mut turn = 0;
-    while turn <= image.len() {
+    for _ in 0..=image.len() {
         let s = walking::step(image, place, end);
-        let entry = s.entry;
         place = s.next;
-        match entry {
-            Entry::Record(r) => {
-                a = record(out, a, image, r);
-            }
-            Entry::End => {
-                return said::text(out, a, b" | end");
-            }
-            Entry::Truncated => {
-                return said::text(out, a, b" | refused 13");
-            }
-            Entry::Chunked => {
-                return said::text(out, a, b" | refused 14");
-            }
+        match s.entry {
+            Entry::Record(r) => record(said, image, r),
+            Entry::End => return said.text(b" | end"),
+            Entry::Truncated => return said.text(b" | refused 13"),
+            Entry::Chunked => return said.text(b" | refused 14"),
         }
-        turn += 1;
     }
-    a
 }
 
-pub fn read(line: &[u8], out: &mut [u8], at: usize, image: &[u8]) -> usize {
+pub fn read(line: &[u8], said: &mut Said, image: &[u8]) {
     match blocks::read(image) {
         Message::At(place, len) => {
-            let a = head(line, out, at, 0);
+            said.head(line, 0);
             let c = walk::start(Message::At(place, len));
-            walk(out, a, image, c.at, c.end)
+            walk(said, image, c.at, c.end);
         }
-        Message::NoContainer => head(line, out, at, 11),
-        Message::NoMessage => head(line, out, at, 12),
-        Message::Truncated => head(line, out, at, 13),
+        Message::NoContainer => said.head(line, 11),
+        Message::NoMessage => said.head(line, 12),
+        Message::Truncated => said.head(line, 13),
     }
 }

@@ -64,10 +64,10 @@ recoveries: cycles of 99 ms in the first and one of 32, of 0 to 99 ms in one of 
 by chance: torn bytes, a system byte old or new, when a phone comes and what it writes
 ";
 
-pub fn summary<W: Write>(to: &mut W, how: &str, plan: Plan, seed: u64, t: Tally) -> Result<()> {
+pub fn summary<W: Write>(to: &mut W, plan: Plan, seed: u64, t: Tally) -> Result<()> {
     row(to, "seed", seed)?;
     tried(to, t, plan)?;
     found(to, t)?;
     write!(to, "{VARIED}")?;
-    verdict(to, how, seed, t.wrong)
+    verdict(to, plan.name, seed, t.wrong)
 }
