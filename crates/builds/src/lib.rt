@@ -3,7 +3,6 @@
 
 use cases::given::given;
 use cases::words::{number, word};
-use judging::Built;
 use layout::refusal::Refusal;
 use lines::said::Said;
 use slices::front;
@@ -21,31 +20,27 @@ pub enum Builder {
     EmptyImage,
 }
 
+// A refusal's number and values.
 fn refused(line: &[u8], said: &mut Said, why: Refusal) {
+    said.head(line, u32::from(why));
     match why {
-        Refusal::TypeTooLong => said.head(line, 1),
         Refusal::TooLong { needed, room } => {
-            said.head(line, 2);
             said.number(needed);
             said.number(room);
         }
-        Refusal::RecordTooLong(n) => {
-            said.head(line, 3);
-            said.number(n);
-        }
-        Refusal::AreaTooBig => said.head(line, 4),
-        Refusal::NotUtf8 => said.head(line, 5),
+        Refusal::RecordTooLong(n) => said.number(n),
+        Refusal::TypeTooLong | Refusal::AreaTooBig | Refusal::NotUtf8 => {}
     }
 }
 
 // Number, values, and the whole buffer afterwards.
-fn built(line: &[u8], said: &mut Said, b: Built, lent: &[u8]) {
-    match b {
-        Built::At(place) => {
+fn built(line: &[u8], said: &mut Said, end: Result<usize, Refusal>, lent: &[u8]) {
+    match end {
+        Ok(place) => {
             said.head(line, 0);
             said.number(place);
         }
-        Built::Refused(why) => refused(line, said, why),
+        Err(why) => refused(line, said, why),
     }
     said.bytes(lent);
 }
@@ -65,7 +60,7 @@ impl Builder {
         }
     }
 
-    fn build(self, line: &[u8], lent: &mut [u8], kind: &mut [u8], text: &mut [u8]) -> Built {
+    fn build(self, line: &[u8], lent: &mut [u8], kind: &mut [u8], text: &mut [u8]) -> Result<usize, Refusal> {
         let area = number(word(line, 2));
         let fourth = word(line, 3);
         let fifth = word(line, 4);
@@ -97,8 +92,8 @@ impl Builder {
         kind: &mut [u8],
         text: &mut [u8],
     ) {
-        let b = self.build(line, lent, kind, text);
-        built(line, said, b, lent);
+        let end = self.build(line, lent, kind, text);
+        built(line, said, end, lent);
     }
 }
 

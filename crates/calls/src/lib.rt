@@ -3,7 +3,6 @@
 
 use cases::given::given;
 use cases::words::{number, word};
-use layout::refusal::Verdict;
 use lines::said::Said;
 use slices::front;
 
@@ -31,13 +30,16 @@ fn length(line: &[u8], said: &mut Said, n: usize) {
 }
 
 fn capability_container(line: &[u8], said: &mut Said) {
-    let c = container::capability_container(number(word(line, 1)));
-    let refusal = match c.verdict {
-        Verdict::Fits => 0,
-        Verdict::Not(_) => 4,
-    };
-    said.head(line, refusal);
-    said.bytes(&c.bytes);
+    match container::capability_container(number(word(line, 1))) {
+        Ok(bytes) => {
+            begin(line, said);
+            said.bytes(&bytes);
+        }
+        Err(why) => {
+            said.head(line, u32::from(why));
+            said.bytes(&[0; 8]);
+        }
+    }
 }
 
 fn set_read_only(line: &[u8], said: &mut Said, lent: &mut [u8]) {

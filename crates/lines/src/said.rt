@@ -35,9 +35,9 @@ impl Said {
     }
 
     // How an answer begins: the call's name, the first word of its line, and the refusal's number, 0 for none.
-    pub fn head(&mut self, line: &[u8], refusal: usize) {
+    pub fn head(&mut self, line: &[u8], refusal: u32) {
         self.text(word(line, 0));
-        self.number(refusal);
+        self.number(refusal as usize);
     }
 
     pub fn number(&mut self, n: usize) {
