@@ -1,10 +1,12 @@
 // Why an image is not built: document 01's numbers 1 to 5, as `number_of` and `values_of` give them.
-ghost use Rattle.std.specs.Prelude.{◌≡◌};
+ghost use Rattle.std.specs.Prelude.{◌≡◌, Some};
 ghost use Rattle.layout.specs.Numbers.{number_of};
+ghost use Rattle.layout.specs.Words.{words_of};
 
+use std::error::Error;
 use std::fmt;
 
-#[derive(Clone, Copy, Debug, PartialEq, Eq)]
+#[derive(Clone, Copy, Debug, Drop, PartialEq, Eq)]
 pub enum Refusal {
     // 1: the type name has over 255 bytes.
     TypeTooLong,
@@ -33,6 +35,8 @@ impl From<Refusal> for u32 {
 }
 
 impl fmt::Display for Refusal {
+    ghost output = { λ why. Some (words_of why) };
+
     fn fmt<W: fmt::Write>(&self, f: &mut fmt::Formatter<W>) -> fmt::Result {
         match self {
             Refusal::TypeTooLong => write!(f, "the type name is too long"),
@@ -48,3 +52,5 @@ impl fmt::Display for Refusal {
         }
     }
 }
+
+impl Error for Refusal {}
