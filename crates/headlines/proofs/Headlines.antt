@@ -18,6 +18,7 @@
 --   finish_leaves_nothing  == `finish`, whenever it comes, answers Ok with RF off, the mark 0, all bytes zero
 --   scrub_exact            == `scrub` programs exactly the non-zero rows below the rounded mark, and changes no byte at or above it
 --   once                   == only one answer meets a promise that is an equation
+use Rattle.std.specs.Prelude.{Ok}
 use mathlib.Core.Path.{◌≡◌}
 use mathlib.Core.Bool.{true, false}
 use mathlib.Core.List.{List, ◌++◌}
@@ -29,7 +30,6 @@ use Rattle.layout.specs.Lengths.{record_len}
 use Rattle.layout.specs.Record.{Fields, whole}
 use Rattle.layout.specs.Payload.{well_known, text_kind, text_payload, english}
 use Rattle.layout.specs.Image.{image, text_image}
-use Rattle.layout.specs.declared.refusal.Verdict.TheVariants.{Fits}
 use Rattle.judging.specs.Judge.{after}
 use Rattle.contents.specs.Contents.{text_of}
 use Rattle.roundtrip.specs.Trip as trip
@@ -78,7 +78,7 @@ pub records_differ : (img : List ℕ) (r q : Fields) → trip.ReadsBack img r �
 records_differ = trip.one_record
 
 pub begun-is-whole : (area format : ℕ) (kind head rest : List ℕ) {out o₁ o₂ o₃ : List ℕ} {place end close : ℕ}
-    → begun.Begun area format kind head rest out o₁ o₂ o₃ place end close → o₃ ≡ after Fits (image area (whole format kind (head ++ rest))) out
+    → begun.Begun area format kind head rest out o₁ o₂ o₃ place end close → o₃ ≡ after (Ok tt) (image area (whole format kind (head ++ rest))) out
 begun-is-whole = begun.begun-is-whole
 
 pub cards : card.Cards

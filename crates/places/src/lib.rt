@@ -7,7 +7,6 @@ ghost use Rattle.plain.specs.Reading.{record_of, yes};
 ghost use Rattle.places.specs.Places.{part_at, part_number, part_numbers, kind_part, id_part, payload_part};
 
 use contents::Part;
-use lengths::sat_add;
 use plain::record_of;
 
 // 1 and the place and length of a part, or 0 and zeros.
@@ -51,7 +50,7 @@ pub fn kind(image: &[u8], places: &[usize; 6], part: &mut [usize; 2]) -> u32
 pub fn id(image: &[u8], places: &[usize; 6], part: &mut [usize; 2]) -> u32
     ensures { (result ≡ part_number (id_part image.now (record_of places.now))) × (part.new ≡ part_numbers (id_part image.now (record_of places.now))) }
 {
-    let at = sat_add(places[2], places[3]);
+    let at = places[2].saturating_add(places[3]);
     let p = part_at(image, at, places[4]);
     told(p, part)
 }
@@ -60,7 +59,9 @@ pub fn id(image: &[u8], places: &[usize; 6], part: &mut [usize; 2]) -> u32
 pub fn payload(image: &[u8], places: &[usize; 6], part: &mut [usize; 2]) -> u32
     ensures { (result ≡ part_number (payload_part image.now (record_of places.now))) × (part.new ≡ part_numbers (payload_part image.now (record_of places.now))) }
 {
-    let at = sat_add(sat_add(places[2], places[3]), places[4]);
+    let at = places[2]
+        .saturating_add(places[3])
+        .saturating_add(places[4]);
     let p = part_at(image, at, places[5]);
     told(p, part)
 }
