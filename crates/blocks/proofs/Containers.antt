@@ -1,7 +1,7 @@
 -- Laws of `container_len`.
 --
 --   container_least   == a container that is known here has at least four bytes
-use mathlib.Core.Path.{◌≡◌, refl, subst, sym}
+use mathlib.Core.Path.{◌≡◌, subst, sym}
 use mathlib.Core.List.{List}
 use Prim.Native.Nat.{ℕ, ◌≤◌}
 use native.Mathlib.Omega.{arith}
@@ -9,7 +9,7 @@ use lib.ListN.{length, get_or}
 use lib.Dec.{ltb, eqb}
 use Rattle.std.specs.Prelude.{Option, Some, None}
 use Rattle.slices.proofs.Cases.{pick_cases}
-use Rattle.blocks.specs.Read.{e1_len, container_len}
+use Rattle.blocks.specs.Read.{container_len}
 
 abbrev Least : Option ℕ → Type 0
 Least (Some n) = 4 ≤ n
