@@ -3,7 +3,8 @@
 --   tlv_there      == a length that is all there takes some bytes, and they are there
 --   over_there     == a block that is stepped over takes some bytes, and they are there
 --   body_there     == a message's bytes are there
-use mathlib.Core.Path.{◌≡◌, subst}
+--   same_span      == parts that are the same have the same place and length
+use mathlib.Core.Path.{◌≡◌, ap, subst}
 use mathlib.Core.List.{List}
 use Prim.Native.Nat.{ℕ, ◌+◌, ◌≤◌, ◌<◌}
 use native.Mathlib.Omega.{arith}
@@ -16,7 +17,7 @@ use Rattle.tlv.specs.declared.Span.{Span}
 use Rattle.tlv.specs.declared.Length.{Length}
 use Rattle.tlv.specs.declared.Block.{Block}
 use Rattle.tlv.specs.declared.Block.TheVariants.{Over, Body, Stop}
-use Rattle.tlv.specs.Blocks.{tlv_length, body_of, on_length, block_of}
+use Rattle.tlv.specs.Blocks.{span, tlv_length, body_of, on_length, block_of}
 
 -- what a length tells of the bytes that it stands in front of
 abbrev Long : List ℕ → Option Length → Type 0
@@ -68,3 +69,8 @@ over_there s e = subst (Sound s) e (block_sound s)
 
 pub body_there : (s : List ℕ) {b : Span} → block_of s ≡ Some (Body b) → b.at + b.len ≤ length s
 body_there s e = subst (Sound s) e (block_sound s)
+
+pub same_span : {at len p n : ℕ} → Some (span at len) ≡ Some (span p n) → (at ≡ p) × (len ≡ n)
+same_span {at} {len} {p} {n} e =
+    let f : span at len ≡ span p n = cc in
+    (ap (λ (b : Span). b.at) f, ap (λ (b : Span). b.len) f)
