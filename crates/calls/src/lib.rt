@@ -58,8 +58,8 @@ fn is_utf8(line: &[u8], said: &mut Said, lent: &mut [u8]) {
 fn uri_prefix(line: &[u8], said: &mut Said) {
     let found = uri::uri_prefix((number(word(line, 1)) % 256) as u8);
     begin(line, said);
-    said.number(usize::from(found.known));
-    said.bytes(front(&found.prefix.bytes, found.prefix.len));
+    said.number(usize::from(found.is_some()));
+    said.bytes(found.unwrap_or(&[]));
 }
 
 impl Call {

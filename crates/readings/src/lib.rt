@@ -1,33 +1,30 @@
 // The reader's call: an image, and every record of its message with its parts, its text and its URI, and how the walk ended.
 #![tactic(auto)]
 
-use blocks::Message;
-use contents::Part;
 use lines::said::Said;
-use records::Record;
-use slices::front;
-use walk::Entry;
+use records::{Malformed, Record};
+use tlv::Span;
+use walk::Cursor;
 
 fn text(said: &mut Said, image: &[u8], r: Record) {
     match contents::text(image, r) {
-        Part::At(place, len) => {
+        Some(Span { at, len }) => {
             said.text(b" text:");
-            said.bare_bytes(pieces::part(image, place, len));
+            said.bare_bytes(pieces::part(image, at, len));
         }
-        Part::Nothing => said.text(b" none"),
+        None => said.text(b" none"),
     }
 }
 
 fn uri(said: &mut Said, image: &[u8], r: Record) {
-    let link = links::uri(image, r);
-    match link.rest {
-        Part::At(place, len) => {
+    match links::uri(image, r) {
+        Some(link) => {
             said.text(b" uri:");
-            said.bare_bytes(front(&link.prefix.bytes, link.prefix.len));
+            said.bare_bytes(link.prefix);
             said.text(b":");
-            said.bare_bytes(pieces::part(image, place, len));
+            said.bare_bytes(pieces::part(image, link.rest.at, link.rest.len));
         }
-        Part::Nothing => said.text(b" none"),
+        None => said.text(b" none"),
     }
 }
 
@@ -43,30 +40,25 @@ fn record(said: &mut Said, image: &[u8], r: Record) {
     uri(said, image, r);
 }
 
-// The records from `from` on, and how the walk ended.
-fn walk(said: &mut Said, image: &[u8], from: usize, end: usize) {
-    let mut place = from;
+// The records of a message, and how the walk ended.
+fn walk(said: &mut Said, image: &[u8], from: Cursor) {
+    let mut at = from.at;
     for _ in 0..=image.len() {
-        let s = walking::step(image, place, end);
-        place = s.next;
-        match s.entry {
-            Entry::Record(r) => record(said, image, r),
-            Entry::End => return said.text(b" | end"),
-            Entry::Truncated => return said.text(b" | refused 13"),
-            Entry::Chunked => return said.text(b" | refused 14"),
+        let step = walking::step(image, at, from.end);
+        match step.entry {
+            Ok(Some(r)) => record(said, image, r),
+            Ok(None) => return said.text(b" | end"),
+            Err(Malformed::Truncated) => return said.text(b" | refused 13"),
+            Err(Malformed::Chunked) => return said.text(b" | refused 14"),
         }
+        at = step.next;
     }
 }
 
 pub fn read(line: &[u8], said: &mut Said, image: &[u8]) {
-    match blocks::read(image) {
-        Message::At(place, len) => {
-            said.head(line, 0);
-            let c = walk::start(Message::At(place, len));
-            walk(said, image, c.at, c.end);
-        }
-        Message::NoContainer => said.head(line, 11),
-        Message::NoMessage => said.head(line, 12),
-        Message::Truncated => said.head(line, 13),
+    let message = blocks::read(image);
+    said.head(line, u32::from(blocks::number(message)));
+    if message.is_ok() {
+        walk(said, image, walk::start(message));
     }
 }
