@@ -60,7 +60,13 @@ impl Builder {
         }
     }
 
-    fn build(self, line: &[u8], lent: &mut [u8], kind: &mut [u8], text: &mut [u8]) -> Result<usize, Refusal> {
+    fn build(
+        self,
+        line: &[u8],
+        lent: &mut [u8],
+        kind: &mut [u8],
+        text: &mut [u8],
+    ) -> Result<usize, Refusal> {
         let area = number(word(line, 2));
         let fourth = word(line, 3);
         let fifth = word(line, 4);
