@@ -7,6 +7,7 @@ ghost use Rattle.heads.specs.Heads.{head_len, payload_len, id_len};
 use slices::wide;
 
 // Bytes before the type name, by the header.
+#[tactic(auto, using(crate::proofs::Heads::head_at))]
 pub fn head_len(h: u8) -> usize
     ensures value { result ≡ head_len h }
     ensures upper_bound { result ≤ 7 }
@@ -24,6 +25,7 @@ pub fn head_len(h: u8) -> usize
 }
 
 // The payload's length: one byte, or four, high byte first.
+#[tactic(auto, using(crate::proofs::Heads::head_at), unfolding(crate::specs::Heads::head_len, crate::specs::Heads::payload_len))]
 pub fn payload_len(s: &[u8], h: u8) -> usize
     requires { (h ≡ get_or s.now 0 0) × (head_len h ≤ length s.now) }
     ensures value { result ≡ payload_len s.now }
@@ -36,6 +38,7 @@ pub fn payload_len(s: &[u8], h: u8) -> usize
 }
 
 // The id's length, after the payload's; 0 where the header announces no id.
+#[tactic(auto, using(crate::proofs::Heads::head_at), unfolding(crate::specs::Heads::id_len))]
 pub fn id_len(s: &[u8], h: u8) -> usize
     requires { (h ≡ get_or s.now 0 0) × (head_len h ≤ length s.now) }
     ensures value { result ≡ id_len s.now }

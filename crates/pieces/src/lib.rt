@@ -5,6 +5,7 @@ ghost use Rattle.std.specs.Prelude.{◌≡◌};
 ghost use Rattle.pieces.specs.Parts.{part_of};
 
 // The `len` bytes at `at`, if they are all there; else none, never fewer.
+#[tactic(auto, unfolding(crate::specs::Parts::part_of))]
 pub fn part(image: &[u8], at: usize, len: usize) -> &[u8]
     ensures { result.now ≡ part_of image.now at len }
 {

@@ -16,10 +16,7 @@ pub fn below(x: u64, n: u64) -> u64 {
 
 // One time in `n`, by the state's low half: it goes with no number that `below` gives.
 pub fn rarely(x: u64, n: u64) -> bool {
-    if n == 0 {
-        return false;
-    }
-    x % 0x1_0000_0000 % n == 0
+    n != 0 && x % 0x1_0000_0000 % n == 0
 }
 
 // How long the next cycle takes: below `pace` milliseconds; always the longest, 99, where `pace` is 0.
@@ -38,11 +35,9 @@ pub fn fill(into: &mut [u8], x: u64) -> u64
     ensures { length into.new ≡ length into.old }
 {
     let mut y = x;
-    let mut i = 0;
-    while i < into.len() {
+    for b in into {
         y = next(y);
-        into[i] = ((y >> 40) % 256) as u8;
-        i += 1;
+        *b = ((y >> 40) % 256) as u8;
     }
     y
 }

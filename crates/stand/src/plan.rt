@@ -1,6 +1,8 @@
 // How many cuts are tried.
 #[derive(Clone, Copy)]
 pub struct Plan {
+    // The word that asks for it.
+    pub name: &'static str,
     // Cut after one step in so many.
     pub every: u64,
     // Museum sessions.
