@@ -58,7 +58,7 @@ pub fn reread_step(p: Chunk, ack: bool, reply: &[u8]) -> Progress<Scrub>
 {
     acked(ack)?;
     let n = size(p.at, p.end);
-    if all_zero(reply, 0, n) {
+    if all_zero(&reply[..n]) {
         next_chunk(p)
     } else {
         Err(TagError::NotTaken)

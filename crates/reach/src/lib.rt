@@ -13,7 +13,7 @@ fn back(s: &[u8], from: usize, w: usize) -> usize
 {
     let mut n = from;
     while w <= n {
-        if !all_zero(s, n - w, w) {
+        if !all_zero(&s[n - w..n]) {
             return n;
         }
         n -= w;

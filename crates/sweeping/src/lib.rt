@@ -30,7 +30,7 @@ fn passed(m: usize, rows: usize, p: Chunk, reply: &[u8]) -> Option<Chunk>
     let next = p.at + 64;
     if next + 64 <= p.end {
         if (0 < chunk_stop(m, p)) & (rows <= p.at / 16) {
-            if all_zero(reply, 0, 64) {
+            if all_zero(&reply[..64]) {
                 return Some(Chunk {
                     left: p.left - 1,
                     at: next,
