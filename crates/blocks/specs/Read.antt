@@ -1,6 +1,8 @@
 -- Reading what a phone wrote: the container, the blocks after it, the message among them.
 -- Document 01, 'Bytes from a phone'; NFC Forum Type 5 Tag, capability container and TLV blocks.
 --
+--   Read                    == what reading an image answers: where the message stands, or why there is none
+--   found place len         == a message of len bytes at that place
 --   on_block at b           == a walk's turn at `at`: on past a block that is stepped over, or the answer
 --   message_from image at   == the message of the blocks from `at` on
 --   e1_len third            == bytes of a container that begins with E1: eight where its third byte is 0, else four
@@ -20,13 +22,19 @@ use Rattle.tlv.specs.Blocks.{span, block_of}
 use Rattle.blocks.specs.declared.Unread.{Unread}
 use Rattle.blocks.specs.declared.Unread.TheVariants.{NoContainer, NoMessage, Truncated}
 
-abbrev pub on_block : ℕ → Option Block → Next ℕ (Result Span Unread)
+abbrev pub Read : Type 0
+Read = Result Span Unread
+
+abbrev pub found : ℕ → ℕ → Read
+found place len = Ok (span place len)
+
+abbrev pub on_block : ℕ → Option Block → Next ℕ Read
 on_block at (Some (Over n)) = more (at + n)
-on_block at (Some (Body b)) = done (Ok (span (at + b.at) b.len))
+on_block at (Some (Body b)) = done (found (at + b.at) b.len)
 on_block at (Some Stop) = done (Err NoMessage)
 on_block at None = done (Err Truncated)
 
-unfoldable pub message_from : List ℕ → ℕ → Result Span Unread
+unfoldable pub message_from : List ℕ → ℕ → Read
 message_from image at = walk (λ a. on_block a (block_of (drop a image))) (Err NoMessage) (λ a. length image - a) at
 
 abbrev pub e1_len : ℕ → ℕ
@@ -38,13 +46,13 @@ container_len s =
     (pick (eqb (get_or s 0 0) 0xE1) (Some (e1_len (get_or s 2 0)))
     (pick (eqb (get_or s 0 0) 0xE2) (Some 8) None))
 
-abbrev pub in_container : List ℕ → Option ℕ → Result Span Unread
+abbrev pub in_container : List ℕ → Option ℕ → Read
 in_container image (Some n) =
     pick (ltb (length image) n) (Err NoContainer)
     (pick (eqb (get_or image 1 0 / 64) 1) (message_from image n) (Err NoContainer))
 in_container image None = Err NoContainer
 
-unfoldable pub read_of : List ℕ → Result Span Unread
+unfoldable pub read_of : List ℕ → Read
 read_of image = in_container image (container_len image)
 
 abbrev pub unread_number : Unread → ℕ
@@ -52,6 +60,6 @@ unread_number NoContainer = 11
 unread_number NoMessage = 12
 unread_number Truncated = 13
 
-abbrev pub number_of : Result Span Unread → ℕ
+abbrev pub number_of : Read → ℕ
 number_of (Ok m) = 0
 number_of (Err why) = unread_number why

@@ -2,7 +2,7 @@
 -- Document 01, 'Bytes from a phone'; NFC Forum Type 5 Tag, TLV blocks.
 --
 --   span at len             == the part of an image that begins at `at` and has len bytes
---   long len size           == the length len, in size bytes
+--   length_of len size      == the length len, in size bytes
 --   tlv_length s            == the length that s, the bytes after a block's type, begins with, and how many bytes it takes: one, or FF and
 --                             two more, high byte first; None where they are not all there
 --   body_of s t from len    == the block s of type t whose len bytes begin at `from`: None where they run past s; type 03 is the message
@@ -18,15 +18,15 @@ use Rattle.tlv.specs.declared.Block.TheVariants.{Over, Body, Stop}
 abbrev pub span : ℕ → ℕ → Span
 span at len = record { at = at; len = len }
 
-abbrev pub long : ℕ → ℕ → Length
-long len size = record { len = len; size = size }
+abbrev pub length_of : ℕ → ℕ → Length
+length_of len size = record { len = len; size = size }
 
 unfoldable pub tlv_length : List ℕ → Option Length
 tlv_length s =
     pick (eqb (length s) 0) None
     (pick (eqb (get_or s 0 0) 0xFF)
-    (pick (ltb (length s) 3) None (Some (long (get_or s 1 0 * 256 + get_or s 2 0) 3)))
-    (Some (long (get_or s 0 0) 1)))
+    (pick (ltb (length s) 3) None (Some (length_of (get_or s 1 0 * 256 + get_or s 2 0) 3)))
+    (Some (length_of (get_or s 0 0) 1)))
 
 unfoldable pub body_of : List ℕ → ℕ → ℕ → ℕ → Option Block
 body_of s t from len =
