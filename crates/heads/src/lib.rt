@@ -4,8 +4,6 @@
 ghost use Rattle.std.specs.Prelude.{◌≡◌, ◌≤◌, ◌<◌, ◌^◌, length, get_or};
 ghost use Rattle.heads.specs.Heads.{head_len, payload_len, id_len};
 
-use slices::wide;
-
 // Bytes before the type name, by the header.
 #[tactic(auto, using(crate::proofs::Heads::head_at))]
 pub fn head_len(h: u8) -> usize
@@ -32,9 +30,10 @@ pub fn payload_len(s: &[u8], h: u8) -> usize
     ensures upper_bound { result < 2 ^ 32 }
 {
     if h / 16 % 2 == 1 {
-        return wide(s[2]);
+        return usize::from(s[2]);
     }
-    ((wide(s[2]) * 256 + wide(s[3])) * 256 + wide(s[4])) * 256 + wide(s[5])
+    ((usize::from(s[2]) * 256 + usize::from(s[3])) * 256 + usize::from(s[4])) * 256
+        + usize::from(s[5])
 }
 
 // The id's length, after the payload's; 0 where the header announces no id.
@@ -46,9 +45,9 @@ pub fn id_len(s: &[u8], h: u8) -> usize
 {
     if h / 8 % 2 == 1 {
         if h / 16 % 2 == 1 {
-            return wide(s[3]);
+            return usize::from(s[3]);
         }
-        return wide(s[6]);
+        return usize::from(s[6]);
     }
     0
 }

@@ -6,8 +6,6 @@ ghost use Rattle.records.specs.Parse.{inside, parse_of, end_of, malformed_number
 ghost use Rattle.records.specs.Plain.{Plain, PlainOf};
 
 use heads::{head_len, id_len, payload_len};
-use slices::wide;
-
 // A record by its places: the type name stands at `kind`, the id right after it, then the payload.
 #[derive(Clone, Copy)]
 pub struct Record {
@@ -83,9 +81,9 @@ pub fn plain_record(bytes: &[u8], kind_len: u8, payload_len: u8) -> Result<Recor
             format: bytes[0] % 8,
             last: false,
             kind: 3,
-            kind_len: wide(kind_len),
+            kind_len: usize::from(kind_len),
             id_len: 0,
-            payload_len: wide(payload_len),
+            payload_len: usize::from(payload_len),
         },
     )
 }
@@ -112,7 +110,7 @@ pub fn parse_record(bytes: &[u8]) -> Result<Record, Malformed>
             format: h % 8,
             last: h / 64 % 2 == 1,
             kind,
-            kind_len: wide(bytes[1]),
+            kind_len: usize::from(bytes[1]),
             id_len: id_len(bytes, h),
             payload_len: payload_len(bytes, h),
         },

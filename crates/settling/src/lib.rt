@@ -14,7 +14,7 @@ use outcomes::{number, value};
 use protocol::answer::{Answer, TagError};
 use results::entered;
 use session::session::Session;
-use slices::{copy_to, wide};
+use slices::copy_to;
 use stages::stage::{Stage, Turn};
 use steps::stage_ask;
 use telling::step::{ask_step, step};
@@ -63,7 +63,7 @@ fn answer(rows: usize, a: Result<Answer, TagError>) -> u64
     requires { rows < 65536 }
     ensures { result ≡ answer_step (answer_number a) rows (answer_value a) }
 {
-    step(0, number(a), rows, wide(value(a)))
+    step(0, number(a), rows, usize::from(value(a)))
 }
 
 pub fn settle(

@@ -1,4 +1,4 @@
-// Writing into a lent buffer: one byte, a whole slice; the front of a slice; a byte as a number. Knows nothing of NFC.
+// Writing into a lent buffer: one byte, a whole slice; the front of a slice. Knows nothing of NFC.
 // Each writer keeps every other byte and returns the place after what it wrote, so that writes chain.
 #![tactic(auto)]
 
@@ -31,11 +31,4 @@ pub fn front(s: &[u8], n: usize) -> &[u8]
     ensures result_value { result.now ≡ take n s.now }
 {
     if n <= s.len() { &s[..n] } else { s }
-}
-
-// A byte as a number.
-pub fn wide(b: u8) -> usize
-    ensures { (result ≡ b) × (result < 256) }
-{
-    b as usize
 }

@@ -15,7 +15,7 @@ use framing::{frame, write_frame};
 use machine::ask::Ask;
 use scan::all_zero;
 use session::session::Session;
-use slices::{copy_to, wide};
+use slices::copy_to;
 use sound::chunk_stop;
 use state::bytes::flat_of;
 use telling::step::ask_step;
@@ -47,8 +47,8 @@ fn four(b: &[u8], at: usize) -> usize
     requires { at + 3 < length b.now }
     ensures { (result ≡ two_at b.now at + 65536 * two_at b.now (at + 2)) × (result < 4294967296) }
 {
-    let low = wide(b[at]) + 256 * wide(b[at + 1]);
-    let high = wide(b[at + 2]) + 256 * wide(b[at + 3]);
+    let low = usize::from(b[at]) + 256 * usize::from(b[at + 1]);
+    let high = usize::from(b[at + 2]) + 256 * usize::from(b[at + 3]);
     low + 65536 * high
 }
 

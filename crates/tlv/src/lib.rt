@@ -4,8 +4,6 @@
 ghost use Rattle.std.specs.Prelude.{◌≡◌, ◌≤◌, ◌<◌, length};
 ghost use Rattle.tlv.specs.Blocks.{tlv_length, block_of, body_of};
 
-use slices::wide;
-
 // A part of an image: its place and its length.
 #[derive(Clone, Copy)]
 pub struct Span {
@@ -41,12 +39,12 @@ pub fn tlv_len(after_type: &[u8]) -> Option<Length>
             return None;
         }
         return Some(Length {
-            len: wide(after_type[1]) * 256 + wide(after_type[2]),
+            len: usize::from(after_type[1]) * 256 + usize::from(after_type[2]),
             size: 3,
         });
     }
     Some(Length {
-        len: wide(after_type[0]),
+        len: usize::from(after_type[0]),
         size: 1,
     })
 }
