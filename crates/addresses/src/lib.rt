@@ -11,6 +11,7 @@ use layout::refusal::Refusal;
 use textual::judge_text;
 
 // The image of a URI: its prefix's code, and the rest.
+// It is no instance of one function with the other two images: each is faster by itself (docs/DECISIONS.md, 63).
 #[tactic(auto, using(judging::proofs::Judged::building), unfolding(layout::specs::Payload::uri_payload))]
 pub fn uri_image(out: &mut [u8], area: usize, uri: &[u8], prefix: u8) -> Result<usize, Refusal>
     ensures value { result ≡ answer (uri_verdict (length out.old) area prefix uri.now) (uri_image area prefix uri.now) }

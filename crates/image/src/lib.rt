@@ -11,6 +11,7 @@ use layout::refusal::Refusal;
 use textual::judge_text;
 
 // The image of an English text.
+// It is no instance of one function with the other two images: each is faster by itself (docs/DECISIONS.md, 63).
 #[tactic(auto, using(judging::proofs::Judged::building), unfolding(layout::specs::Payload::text_payload))]
 pub fn text_image(out: &mut [u8], area: usize, text: &[u8]) -> Result<usize, Refusal>
     ensures value { result ≡ answer (text_verdict (length out.old) area text.now) (text_image area text.now) }
