@@ -21,14 +21,14 @@ const FULL: Plan = Plan {
     name: "full",
     every: 1,
     sessions: 64,
-    total: 0,
+    total: None,
 };
 
 const SHORT: Plan = Plan {
     name: "short",
     every: 199,
     sessions: 16,
-    total: 0,
+    total: None,
 };
 
 // Whether a word is a decimal number.
@@ -40,7 +40,7 @@ fn is_number(word: &[u8]) -> bool {
 fn run<O: Write, E: Write>(out: &mut O, err: &mut E, plan: Plan, seed: u64) -> Result<()> {
     let counted = all(err, plan, seed)?;
     let whole = Plan {
-        total: counted.cuts,
+        total: Some(counted.cuts),
         ..plan
     };
     let tally = all(err, whole, seed)?;

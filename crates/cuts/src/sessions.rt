@@ -110,7 +110,7 @@ fn day(bench: Bench, memory: Memory, tally: Tally) -> Day {
 
 // Every row full, every cycle as long as can be, a part that was never set up.
 fn wipe<W: Write>(to: &mut W, plan: Plan, seed: u64, tally: Tally) -> Result<Tally> {
-    let bench = Bench::new(powered(0x00, 0, 0x1a), chance::next(seed), 0);
+    let bench = Bench::new(powered(0x00, 0, 0x1a), chance::next(seed), None);
     let mut day = day(bench, [0xa5; 8192], tally);
     day.take(to, plan, &WIPE)?;
     Ok(day.tally)
@@ -139,7 +139,7 @@ fn museum<W: Write>(to: &mut W, plan: Plan, seed: u64, n: u64, tally: Tally) -> 
     let z = leftovers(&mut memory, y);
     let cfg = if n % 2 == 0 { 0x1a } else { 0x3a };
     let mngt = (n / 2 % 4) as u8;
-    let bench = Bench::new(powered(gpo1(n, z), mngt, cfg), chance::next(z), 100);
+    let bench = Bench::new(powered(gpo1(n, z), mngt, cfg), chance::next(z), Some(100));
     let mut day = day(bench, memory, tally);
     day.take(to, plan, &MUSEUM)?;
     Ok(day.tally)

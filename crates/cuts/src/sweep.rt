@@ -22,13 +22,13 @@ pub struct Day {
 impl Day {
     // One cut, or one more counted.
     fn tried<W: Write>(&mut self, to: &mut W, plan: Plan, delayed: bool) -> Result<()> {
-        if plan.total == 0 {
+        let Some(total) = plan.total else {
             self.tally.count_cut();
             return Ok(());
-        }
+        };
         trial(self.bench, delayed, &self.tile, &mut self.tally);
         if self.tally.cuts % 1000 == 0 {
-            progress(to, self.tally, plan.total)?;
+            progress(to, self.tally, total)?;
         }
         Ok(())
     }

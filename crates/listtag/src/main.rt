@@ -6,7 +6,8 @@ use listing::ROOM;
 use slices::front;
 use std::io::{Read, Result};
 
-// Reads the input to its end, or until `image` is full, and gives how many bytes it had.
+// Reads the input to its end, or until `image` is full, and gives how many bytes it had. How far a turn goes is the reader's to say, so no
+// range counts the turns.
 fn read_image<R: Read>(input: &mut R, image: &mut [u8]) -> Result<usize> {
     let mut have = 0;
     while have < image.len() {

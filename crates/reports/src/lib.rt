@@ -49,10 +49,10 @@ fn found<W: Write>(to: &mut W, t: Tally) -> Result<()> {
 }
 
 // Where something is wrong, the line tells how to have it again.
-fn verdict<W: Write>(to: &mut W, how: &str, seed: u64, wrong: u64) -> Result<()> {
-    if wrong == 0 {
+fn verdict<W: Write>(to: &mut W, how: &str, seed: u64, wrong: Option<u64>) -> Result<()> {
+    let Some(wrong) = wrong else {
         return writeln!(to, "nothing left");
-    }
+    };
     writeln!(to, "LEFT: first wrong at cut {wrong} of: cuts {how} {seed}")
 }
 

@@ -39,8 +39,8 @@ pub struct Bench {
     // The session's end of what may be non-zero, as `skp_tag_dirty` tells it when a call has been taken to its end.
     pub dirty: u64,
     pub chance: u64,
-    // Cycles take less than this many milliseconds; 0: all take 99.
-    pub pace: u64,
+    // Cycles take less than this many milliseconds; with none, all take 99.
+    pub pace: Option<u64>,
     // Bus transfers and milliseconds of delay of this call.
     pub transfers: u64,
     pub ms: u64,
@@ -69,7 +69,7 @@ pub fn more(n: u64, k: u64) -> u64 {
 
 impl Bench {
     // Before the first call.
-    pub fn new(registers: Registers, chance: u64, pace: u64) -> Bench {
+    pub fn new(registers: Registers, chance: u64, pace: Option<u64>) -> Bench {
         Bench {
             registers,
             step: Step::Answer { number: 0 },

@@ -19,14 +19,13 @@ pub fn rarely(x: u64, n: u64) -> bool {
     n != 0 && x % 0x1_0000_0000 % n == 0
 }
 
-// How long the next cycle takes: below `pace` milliseconds; always the longest, 99, where `pace` is 0.
-pub fn cycle(x: u64, pace: u64) -> u8
+// How long the next cycle takes: below `pace` milliseconds; always the longest, 99, where there is none.
+pub fn cycle(x: u64, pace: Option<u64>) -> u8
     ensures { result ≤ 99 }
 {
-    if pace == 0 {
-        99
-    } else {
-        (below(x, pace) % 100) as u8
+    match pace {
+        Some(pace) => (below(x, pace) % 100) as u8,
+        None => 99,
     }
 }
 

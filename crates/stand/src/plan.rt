@@ -7,6 +7,6 @@ pub struct Plan {
     pub every: u64,
     // Museum sessions.
     pub sessions: u64,
-    // How many cuts there will be; 0: they are counted only.
-    pub total: u64,
+    // How many cuts there will be; where that is not known yet they are counted only.
+    pub total: Option<u64>,
 }

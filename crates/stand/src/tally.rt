@@ -15,8 +15,8 @@ pub struct Tally {
     pub refused: u64,
     pub open: u64,
     pub left: u64,
-    // The first cut after which something was wrong; 0 for none.
-    pub wrong: u64,
+    // The first cut after which something was wrong.
+    pub wrong: Option<u64>,
     // The longest recovery, in transfers and in milliseconds; and all transfers, of sessions and recoveries.
     pub longest: u64,
     pub slowest: u64,
@@ -49,7 +49,7 @@ impl Tally {
             refused: 0,
             open: 0,
             left: 0,
-            wrong: 0,
+            wrong: None,
             longest: 0,
             slowest: 0,
             transfers: 0,
@@ -85,9 +85,7 @@ impl Tally {
     }
 
     fn note_wrong(&mut self, cut: u64) {
-        if self.wrong == 0 {
-            self.wrong = cut;
-        }
+        self.wrong = self.wrong.or(Some(cut));
     }
 
     // One more cut: what the recovery ended in, and the bytes that it left.
