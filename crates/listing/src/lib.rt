@@ -21,6 +21,7 @@ pub const IMAGE: usize = 8_192;
 // A buffer this long holds every listing: five bytes for each byte of an image, and a last line.
 pub const ROOM: usize = 40_971;
 
+// By itself, and no `usize::from` where it is used: with that the line's proof stays open.
 fn flag(b: bool) -> usize
     ensures { result ≡ pick b 1 0 }
 {
@@ -106,7 +107,7 @@ fn put_message(out: &mut [u8], image: &[u8], m: Result<Span, Unread>) -> usize
 }
 
 // Everything that is printed of an image, at the front of `out`, and how long it is. A listing is never empty: 0 says that `out` is
-// shorter than ROOM, and then not a byte of it is changed.
+// shorter than ROOM, and then not a byte of it is changed; `listtag`, whose `out` is not, prints what there is without asking.
 pub fn list(out: &mut [u8], image: &[u8]) -> usize
     ensures value { result ≡ list_answer (length out.old) image.now }
     ensures out_after { out.new ≡ list_after image.now out.old }

@@ -37,7 +37,7 @@ fn is_narrow(s: &[u8], i: usize, n: usize) -> bool
     ok
 }
 
-// Past the blocks of `n` bytes from `from` on.
+// Past the blocks of `n` bytes from `from` on. The place is no count: a block may end one byte further on.
 pub fn past_narrow(s: &[u8], from: usize, n: usize) -> usize
     requires from_in_bounds { from ≤ length s.now }
     requires n_nonzero { 0 < n }

@@ -12,5 +12,6 @@ pub enum Look {
     Byte(usize),
     // MEM_SIZE to the end of the UID.
     Identity,
+    // A read that no call makes. It is a variant and no Option around the others: the part's definitions give it what it shows, nothing.
     Unknown,
 }

@@ -6,7 +6,7 @@ ghost use Rattle.scan.specs.Zeros.{high_water, Back};
 
 use scan::all_zero;
 
-// Back over the blocks of `w` zeros that end at `from`.
+// Back over the blocks of `w` zeros that end at `from`. The place that it comes to is the answer, so it is no block's number.
 fn back(s: &[u8], from: usize, w: usize) -> usize
     requires { (from ≤ length s.now) × (0 < w) }
     ensures { Back s.now result from }

@@ -81,7 +81,8 @@ fn off_sound(s: Switch) -> bool
     }
 }
 
-// Where a chunk of the wipe from the mark m stops; 0 for a chunk that it does not have.
+// Where a chunk of the wipe from the mark m stops; 0 for a chunk that it does not have, so that one comparison tells both: a row or a count of
+// rows is held against it as it is.
 pub fn chunk_stop(m: usize, p: Chunk) -> usize
     requires { m ≤ 8192 }
     ensures { (result ≡ chunk_stop m p) × (result ≤ 8192) }

@@ -34,7 +34,8 @@ pub enum Stage {
     FinishWipe(bool, Scrub),
 }
 
-// Where a reply leads, with the mark after it.
+// Where a reply leads, with the mark after it. Both ways go on with a mark, so it is no Result of one of them; and the mark is a number and no
+// type of its own with a bound: the laws of turns and sessions speak of every mark, also of those that calls refuse to start with.
 #[derive(Clone, Copy)]
 pub enum Turn {
     Open(usize, Stage),
