@@ -4,6 +4,7 @@ ghost use Rattle.std.specs.Prelude.{◌≡◌, ◌+◌, ◌<◌, length};
 ghost use Rattle.state.specs.Bytes.{bytes_of, two_at, code_in, place_in, flat_of};
 
 use numbers::flat::{Code, Flat, Place};
+
 pub const STATE_LEN: usize = 20;
 
 pub fn bytes(f: Flat) -> [u8; 20]

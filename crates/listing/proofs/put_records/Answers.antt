@@ -17,7 +17,7 @@ put_record-to-requires c =
     let q : c.step-s.result.entry ≡ Ok (Some c.in-Some.r) = cc in
     let e = entry_is _ _ _ c.step-s.ensures q in
     let h : c.loop-found.to + length (record_line (c.loop-found.count + 1) c.in-Some.r c.args.image.now) ≤ length c.args.out.now
-        = room_for_line _ _ c.loop-found.invariant.2 c.requires (listed_record _ _ _ _ e) in
+    = room_for_line _ _ c.loop-found.invariant.2 c.requires (listed_record _ _ _ _ e) in
     omega arith
 
 pub loop-found-smaller : goal.loop-found-smaller
@@ -31,7 +31,7 @@ loop-found-preserved c =
     let q : c.step-s.result.entry ≡ Ok (Some c.in-Some.r) = cc in
     let e = entry_is _ _ _ c.step-s.ensures q in
     let h : c.loop-found.to + length (record_line (c.loop-found.count + 1) c.in-Some.r c.args.image.now) ≤ length c.args.out.now
-        = room_for_line _ _ c.loop-found.invariant.2 c.requires (listed_record _ _ _ _ e) in
+    = room_for_line _ _ c.loop-found.invariant.2 c.requires (listed_record _ _ _ _ e) in
     let p = c.put_record-to.ensures.place in (
       omega (arith, record_length (c.loop-found.count + 1) c.in-Some.r c.args.image.now),
       omega arith,
