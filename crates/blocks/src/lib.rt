@@ -30,7 +30,7 @@ impl From<Unread> for u8 {
     }
 }
 
-// Document 01's number: 0 where there is a message.
+// Document 01's number: 0 where there is a message. By itself, as `records::number` and `walk::number` are: `number_of` is what C is promised.
 pub fn number(m: Result<Span, Unread>) -> u8
     ensures { result ≡ number_of m }
 {
@@ -40,7 +40,8 @@ pub fn number(m: Result<Span, Unread>) -> u8
     }
 }
 
-// The message, from a place in the image on. The blocks that are left are a part of the image that starts in the middle.
+// The message, from a place in the image on. The blocks that are left are a part of the image that starts in the middle. How far a turn goes is for
+// the block to say, so no iterator counts the turns.
 #[tactic(auto, using(crate::proofs::Blocks::next_there, crate::proofs::Blocks::message_there))]
 fn message_from(image: &[u8], start: usize) -> Result<Span, Unread>
     requires { start ≤ length image.now }

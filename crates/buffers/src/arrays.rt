@@ -4,7 +4,7 @@ use crate::names::OnArrays;
 use cases::given::{Bytes, generate, given};
 use cases::words::{number, word};
 
-// How many bytes of each array are lent, from its front; where there are fewer, all.
+// How many bytes of each array are lent, from its front; where there are fewer, all. They stand apart from the arrays: a line sets all five at once.
 #[derive(Clone, Copy)]
 struct Lengths {
     state: usize,

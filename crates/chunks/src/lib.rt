@@ -13,11 +13,7 @@ use wipe::scrub::{Chunk, Scrub};
 pub fn size(at: usize, end: usize) -> usize
     ensures { result ≡ size_of at end }
 {
-    if end <= at {
-        return 0;
-    }
-    let n = end - at;
-    if n < 64 { n } else { 64 }
+    end.saturating_sub(at).min(64)
 }
 
 // A wipe to `end`, from its first chunk.

@@ -1,4 +1,5 @@
 // Where a wipe begins, how far it reaches, and where each of its steps leads.
+// A match for each call, as in `turns`.
 #![tactic(auto)]
 
 ghost use Rattle.std.specs.Prelude.{◌≡◌, ◌≤◌};

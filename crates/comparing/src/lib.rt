@@ -31,8 +31,7 @@ pub fn chunk_len(done: usize, len: usize) -> usize
     requires { done ≤ len }
     ensures { result ≡ chunk_of done len }
 {
-    let n = len - done;
-    if n < 64 { n } else { 64 }
+    (len - done).min(64)
 }
 
 // What follows a chunk that was read back.

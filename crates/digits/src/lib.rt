@@ -1,5 +1,6 @@
 // Numbers and bytes as text, into a lent buffer.
-// Each writer has been given room by its caller; it keeps every other byte and returns the place after what it wrote.
+// Each writer has been given room by its caller; it keeps every other byte and returns the place after what it wrote. That is promised byte by byte
+// (`Wrote`), which std's `write!` does not say of a buffer.
 #![tactic(auto)]
 
 ghost use Rattle.std.specs.Prelude.{◌≡◌, ◌++◌, ◌∷◌, [], ◌+◌, ◌*◌, ◌≤◌, ◌<◌, length};

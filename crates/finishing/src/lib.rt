@@ -1,4 +1,5 @@
 // The end of `finish`: whether a phone wrote, how far the wipe then reaches, and where each of its steps leads.
+// A match for each call, as in `turns`.
 #![tactic(auto)]
 
 ghost use Rattle.std.specs.Prelude.{◌≡◌, ◌≤◌};

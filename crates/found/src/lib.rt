@@ -10,8 +10,8 @@ use protocol::answer::Progress;
 use scan::blank_row;
 use wipe::scrub::{Chunk, Rows, Scrub};
 
-// The first row to be programmed from `row` on, of three; the chunk is read again where there is none. The three are no `Rows`: that holds the
-// row before them, and no row stands before the one at 0.
+// The first row to be programmed from `row` on, of three; the chunk is read again where there is none. The three are no `Rows`: that has the row
+// before them, and `next_row` answers for the row at 0 too.
 pub fn next_row(p: Chunk, row: usize, x: bool, y: bool, z: bool) -> Scrub
     requires { row < 70000 }
     ensures { result ≡ next_row p row (x ∷ y ∷ z ∷ []) }

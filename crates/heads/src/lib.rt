@@ -32,8 +32,7 @@ pub fn payload_len(s: &[u8], h: u8) -> usize
     if h / 16 % 2 == 1 {
         return usize::from(s[2]);
     }
-    ((usize::from(s[2]) * 256 + usize::from(s[3])) * 256 + usize::from(s[4])) * 256
-        + usize::from(s[5])
+    u32::from_be_bytes([s[2], s[3], s[4], s[5]]) as usize
 }
 
 // The id's length, after the payload's; 0 where the header announces no id.

@@ -12,6 +12,7 @@ use session::session::Session;
 use stages::stage::Stage;
 use telling::opening::{Heard, Misuse};
 
+// The lengths are no struct, as the buffers of `replying::reply` are none: C lends each by itself.
 fn misfit(s: Session, st: Stage, transfer: usize, reply: usize, lent: usize, out: usize) -> bool
     ensures { result ≡ misfit s st transfer reply lent out }
 {

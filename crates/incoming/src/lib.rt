@@ -18,16 +18,14 @@ pub fn byte_at(s: &[u8], i: usize) -> u8
 pub fn place_of(s: &[u8]) -> usize
     ensures { (result ≡ place_of s.now) × (result < 65536) }
 {
-    let high = usize::from(byte_at(s, 0));
-    let low = usize::from(byte_at(s, 1));
-    high * 256 + low
+    usize::from(u16::from_be_bytes([byte_at(s, 0), byte_at(s, 1)]))
 }
 
 // How many bytes follow the place.
 pub fn data_len(s: &[u8]) -> usize
     ensures { result ≡ length s.now - 2 }
 {
-    if s.len() < 2 { 0 } else { s.len() - 2 }
+    s.len().saturating_sub(2)
 }
 
 // Whether the all-zero password follows the place.

@@ -1,5 +1,6 @@
 // Puts the parts of an image together in a lent buffer, each byte once: what stands before the payload, and the whole image.
-// Whoever calls has judged that they fit; every byte after the place that is returned keeps what it was.
+// Whoever calls has judged that they fit, and `opens::open` has cut the format to three bits; every byte after the place that is returned keeps
+// what it was.
 #![tactic(auto)]
 
 ghost use Rattle.std.specs.Prelude.{◌++◌, ◌+◌, ◌≤◌, ◌<◌, ◌^◌, length};

@@ -10,7 +10,7 @@ const ROOM: usize = 262144;
 
 const HEX: [u8; 16] = *b"0123456789abcdef";
 
-// What has been said and not written out yet: the first `len` bytes.
+// What has been said and not written out yet: the first `len` bytes, since there is no heap for a Vec.
 #[derive(Drop)]
 pub struct Said {
     bytes: [u8; ROOM],

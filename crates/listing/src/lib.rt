@@ -21,11 +21,11 @@ pub const IMAGE: usize = 8_192;
 // A buffer this long holds every listing: five bytes for each byte of an image, and a last line.
 pub const ROOM: usize = 40_971;
 
-// By itself, and no `usize::from` where it is used: with that the line's proof stays open.
+// By itself: the line's proof cites what it gives.
 fn flag(b: bool) -> usize
     ensures { result ≡ pick b 1 0 }
 {
-    if b { 1 } else { 0 }
+    usize::from(b)
 }
 
 // A record's number, format and last flag, each with the space after it.
@@ -67,7 +67,7 @@ fn put_refused(out: &mut [u8], at: usize, number: u8) -> usize
     put_number(out, a, number as usize, b'\n')
 }
 
-// The records from `start` to `end`, and the last line.
+// The records from `start` to `end`, and the last line. The walk ends by what it finds, and three numbers go on with it, so no iterator has them.
 fn put_records(out: &mut [u8], image: &[u8], start: usize, end: usize) -> usize
     requires { length (listed 0 image.now (walked image.now start end)) ≤ length out.old }
     ensures { Wrote out.old 0 (listed 0 image.now (walked image.now start end)) out.new result }
@@ -107,7 +107,7 @@ fn put_message(out: &mut [u8], image: &[u8], m: Result<Span, Unread>) -> usize
 }
 
 // Everything that is printed of an image, at the front of `out`, and how long it is. A listing is never empty: 0 says that `out` is
-// shorter than ROOM, and then not a byte of it is changed; `listtag`, whose `out` is not, prints what there is without asking.
+// shorter than ROOM, and then not a byte of it is changed: no Option, since that is what `list_answer` promises.
 pub fn list(out: &mut [u8], image: &[u8]) -> usize
     ensures value { result ≡ list_answer (length out.old) image.now }
     ensures out_after { out.new ≡ list_after image.now out.old }

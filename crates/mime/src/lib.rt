@@ -11,7 +11,7 @@ use judging::judge;
 use layout::refusal::Refusal;
 
 // The image of a payload with a MIME type. The payload is bytes, whatever they are.
-// It is no instance of one function with the other two images: each is faster by itself (docs/DECISIONS.md, 63).
+// It is no instance of one function with the other two images: its check knows nothing of UTF-8, and its type name is the caller's.
 #[tactic(auto, using(judging::proofs::Judged::building))]
 pub fn mime_image(
     out: &mut [u8],

@@ -1,4 +1,5 @@
-// A session as numbers: tags for the stage and for what its machine is at, then places.
+// A session as numbers: tags for the stage and for what its machine is at, then places. Numbers and no enums, because C lends a state as twenty
+// bytes; so in `midway`, `owning`, `moving` and `noting`. Tag, code and place go on as three: `start_from` and `same_stage` take them so.
 
 // What a machine is at: its tag, the tag of the machine inside it, a choice (which byte, on or off, stuck, alike), and how many
 // polls or tries are left.

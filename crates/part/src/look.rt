@@ -12,6 +12,6 @@ pub enum Look {
     Byte(usize),
     // MEM_SIZE to the end of the UID.
     Identity,
-    // A read that no call makes. It is a variant and no Option around the others: the part's definitions give it what it shows, nothing.
+    // A read that no call makes. A variant and no Option around the others: `known` and `shown` say of it, as of each, what the part answers.
     Unknown,
 }

@@ -26,10 +26,7 @@ fn presented(ack: bool) -> Progress<Open>
 fn waited(w: Progress<Wait>) -> Progress<Open>
     ensures { result ≡ open_waited w }
 {
-    match w? {
-        Some(n) => Ok(Some(Open::Wait(n))),
-        None => Ok(Some(Open::Look)),
-    }
+    Ok(Some(w?.map_or(Open::Look, Open::Wait)))
 }
 
 // Bit 0 of I2C_SSO_Dyn says that the session is open.

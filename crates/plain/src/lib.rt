@@ -28,7 +28,7 @@ fn numbers(r: Record) -> [usize; 6]
 fn format_of(x: usize) -> u8
     ensures { result ≡ min x 255 }
 {
-    if x < 255 { x as u8 } else { 255 }
+    x.min(255) as u8
 }
 
 // The record whose places these are.

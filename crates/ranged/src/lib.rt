@@ -13,7 +13,8 @@ use protocol::answer::TagError;
 use stages::stage::{Stage, Turn};
 use turns::write_turn;
 
-// Whether n bytes at `at` end past the part. Nothing is added to `at` before it is known to be small.
+// Whether n bytes at `at` end past the part. Nothing is added to `at` before it is known to be small. The simulated part has a test of its own
+// (`incoming::inside`), so that a slip here shows there.
 pub fn past(at: usize, n: usize) -> bool
     ensures { result ≡ past at n }
 {
@@ -39,8 +40,7 @@ fn widened(m: usize, at: usize, n: usize) -> usize
     requires { at + n ≤ 8192 }
     ensures { result ≡ widened m at (at + n) }
 {
-    let end = at + n;
-    if end < m { m } else { end }
+    m.max(at + n)
 }
 
 // The mark moves before the first row: a cut may leave any of the bytes.

@@ -27,16 +27,12 @@ impl Session {
     pub const RF_TRIES: u8 = 10;
 
     // A session whose mark was carried from the last one: the smaller of `dirty` and the whole part.
+    #[tactic(auto, unfolding(protocol::specs::Mark::given))]
     pub fn new(dirty: usize) -> Session
         ensures { result ≡ idle (given dirty) }
     {
-        let mark = if dirty < Session::USER_MEMORY {
-            dirty
-        } else {
-            Session::USER_MEMORY
-        };
         Session {
-            mark,
+            mark: dirty.min(Session::USER_MEMORY),
             rows: 0,
             lent: 0,
             now: None,

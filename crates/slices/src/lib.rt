@@ -14,7 +14,7 @@ pub fn put(out: &mut [u8], at: usize, b: u8) -> usize
     at + 1
 }
 
-// All of `src`.
+// All of `src`. A `for` and no `copy_from_slice`: of that the compiler makes 50 instructions for a frame of 19 bytes, and 39 of this.
 pub fn copy_to(out: &mut [u8], at: usize, src: &[u8]) -> usize
     requires { at + length src.now ≤ length out.old }
     ensures { Wrote out.old at src.now out.new result }

@@ -98,7 +98,7 @@ pub fn chunk_stop(m: usize, p: Chunk) -> usize
     let left = (end - at - 1) / 64;
     if (at % 64 == 0) & (p.left == left) {
         let stop = at + 64;
-        return if end < stop { end } else { stop };
+        return end.min(stop);
     }
     0
 }
@@ -157,6 +157,7 @@ fn rows_to(start: usize, end: usize) -> usize
     (end - 1) / 16 - start / 16 + 1
 }
 
+// 0, as the definition has it, where the numbers are of no such piece.
 fn piece_rows(m: usize, len: usize, p: Piece) -> usize
     requires { m ≤ 8192 }
     ensures { result ≡ piece_rows m len p }
@@ -173,6 +174,7 @@ fn piece_rows(m: usize, len: usize, p: Piece) -> usize
     0
 }
 
+// 0, as the definition has it, where the numbers are of no such chunk.
 fn check_rows(m: usize, len: usize, c: Check) -> usize
     requires { m ≤ 8192 }
     ensures { result ≡ check_rows m len c }

@@ -7,6 +7,7 @@ use numbers::flat::{Code, Flat, Place};
 
 pub const STATE_LEN: usize = 20;
 
+// Each byte by itself, as the definition `bytes_of` has them: joined from the numbers' own bytes the array would be put together in parts.
 pub fn bytes(f: Flat) -> [u8; 20]
     ensures { result ≡ bytes_of f }
 {

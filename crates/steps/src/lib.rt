@@ -43,7 +43,8 @@ pub fn stage_ask(st: Stage, len: usize) -> Ask
     }
 }
 
-// The bytes that were read stand in `out` after the read of the whole memory, else in `reply`.
+// The bytes that were read stand in `out` after the read of the whole memory, else in `reply`. That a reply has 64 bytes is asked here and below: C
+// lends slices of any length, and `hearing` tests them once.
 pub fn stage_step(st: Stage, m: usize, ack: bool, reply: &[u8], lent: &[u8], out: &[u8]) -> Turn
     requires { Able (length lent.now) (length out.now) st × (m ≤ 8192) × (64 ≤ length reply.now) }
     ensures { result ≡ stage_step lent.now m st ack (got_by st reply.now out.now) }

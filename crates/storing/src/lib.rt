@@ -27,10 +27,7 @@ fn sent(ack: bool) -> Progress<Store>
 fn waited(w: Progress<Wait>) -> Progress<Store>
     ensures { result ≡ store_waited w }
 {
-    match w? {
-        Some(n) => Ok(Some(Store::Wait(n))),
-        None => Ok(Some(Store::Look)),
-    }
+    Ok(Some(w?.map_or(Store::Look, Store::Wait)))
 }
 
 fn looked(value: u8, ack: bool, v: u8) -> Progress<Store>

@@ -1,4 +1,5 @@
 // Where a step of RF's switch leads, in the call that it serves.
+// A match for each call, as in `turns`.
 #![tactic(auto)]
 
 ghost use Rattle.std.specs.Prelude.{◌≡◌, ◌≤◌};

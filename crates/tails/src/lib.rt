@@ -13,7 +13,7 @@ pub fn inside(b: u8, lo: u8, hi: u8) -> bool
     (lo <= b) & (b <= hi)
 }
 
-// `n` where the test holds, else 0.
+// `n` where the test holds, else 0: no Option, since the definition `first_len` gives 0 where no row fits.
 pub fn when(ok: bool, n: usize) -> usize
     ensures { result ≡ pick ok n 0 }
 {

@@ -13,6 +13,7 @@ pub fn step(kind: u8, a: u8, b: usize, c: usize) -> u64
     (low + b * 65536 + c * 4294967296) as u64
 }
 
+// C's step has the number.
 fn read_kind(out: bool) -> u8
     ensures { result ≡ pick out 3 2 }
 {

@@ -39,7 +39,7 @@ pub fn tlv_len(after_type: &[u8]) -> Option<Length>
             return None;
         }
         return Some(Length {
-            len: usize::from(after_type[1]) * 256 + usize::from(after_type[2]),
+            len: usize::from(u16::from_be_bytes([after_type[1], after_type[2]])),
             size: 3,
         });
     }

@@ -17,7 +17,8 @@ fn stopped(entry: Entry, end: usize) -> Stepped
     Stepped { entry, next: end }
 }
 
-// The record at the front of the bytes that are left, by its own way where it is plain; its two lengths are then known.
+// The record at the front of the bytes that are left, by its own way where it is plain; its two lengths are then known. They are read before it is
+// known whether they hold (`step`), so an Option of them would be made and taken apart at once.
 fn parsed(rest: &[u8], plain: bool, kind_len: u8, payload_len: u8) -> Result<Record, Malformed>
     requires { plain ≡ true → PlainOf rest.now kind_len payload_len }
     ensures { result ≡ parse_of rest.now }

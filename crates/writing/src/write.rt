@@ -1,7 +1,8 @@
 // write: the bytes row by row, then every byte read back. The bytes are lent anew for each step.
 use machine::wait::Wait;
 
-// The rows of the bytes at `start`: `done` bytes are programmed, and `left` rows come after this one.
+// The rows of the bytes at `start`: `done` bytes are programmed, and `left` rows come after this one. No invariant bounds them: `piece_from` makes
+// one of any numbers, and only then they are tested.
 #[derive(Clone, Copy)]
 pub struct Piece {
     pub left: usize,
