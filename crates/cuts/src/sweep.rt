@@ -10,7 +10,7 @@ use stand::step::Step;
 use stand::tally::Tally;
 use std::io::{Result, Write};
 
-// A session under way, and what the trials add up to.
+// A session under way, and what the trials add up to. The plan and the writer are no fields: they go on from day to day.
 #[derive(Clone, Copy)]
 pub struct Day {
     pub bench: Bench,

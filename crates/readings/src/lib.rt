@@ -40,7 +40,7 @@ fn record(said: &mut Said, image: &[u8], r: Record) {
     uri(said, image, r);
 }
 
-// The records of a message, and how the walk ended.
+// The records of a message, and how the walk ended; each end is one text, so that it is left out whole where it does not fit.
 fn walk(said: &mut Said, image: &[u8], from: Cursor) {
     let mut at = from.at;
     for _ in 0..=image.len() {
