@@ -7,18 +7,17 @@ ghost use Rattle.judging.specs.Judge.{answer, after};
 ghost use Rattle.image.specs.Builds.{uri_verdict};
 
 use joins::put_image;
-use judging::Built;
-use layout::refusal::Verdict;
+use layout::refusal::Refusal;
 use textual::judge_text;
 
 // The image of a URI: its prefix's code, and the rest.
-pub fn uri_image(out: &mut [u8], area: usize, uri: &[u8], prefix: u8) -> Built
+// It is no instance of one function with the other two images: each is faster by itself (docs/DECISIONS.md, 63).
+#[tactic(auto, using(judging::proofs::Judged::building), unfolding(layout::specs::Payload::uri_payload))]
+pub fn uri_image(out: &mut [u8], area: usize, uri: &[u8], prefix: u8) -> Result<usize, Refusal>
     ensures value { result ≡ answer (uri_verdict (length out.old) area prefix uri.now) (uri_image area prefix uri.now) }
     ensures out_after { out.new ≡ after (uri_verdict (length out.old) area prefix uri.now) (uri_image area prefix uri.now) out.old }
 {
     let head = [prefix];
-    match judge_text(out.len(), area, &head, uri) {
-        Verdict::Not(why) => Built::Refused(why),
-        Verdict::Fits => Built::At(put_image(out, area, 1, b"U", &head, uri)),
-    }
+    judge_text(out.len(), area, &head, uri)?;
+    Ok(put_image(out, area, 1, b"U", &head, uri))
 }

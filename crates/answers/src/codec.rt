@@ -1,60 +1,57 @@
 // A case of the codec: a length, a call on one buffer, a builder or the reader.
-use cases::given::{generate, given};
-use cases::words::{first, number, second};
-use lines::said;
+use builds::Builder;
+use calls::Call;
+use cases::given::{Bytes, generate, given};
+use cases::words::{number, word};
+use lines::said::Said;
 use slices::front;
 
-// A builder's case: its buffer is the first part of `room`, as long as the case says and filled from that number.
-fn build(
-    line: &[u8],
-    out: &mut [u8],
-    at: usize,
-    room: &mut [u8],
-    kind: &mut [u8],
-    text: &mut [u8],
-    call: usize,
-) -> usize {
-    let length = number(second(line));
-    if room.len() < length {
-        return said::text(out, at, b"?");
-    }
-    let buffer = &mut room[..length];
-    generate(buffer, length, false);
-    builds::answer(line, out, at, buffer, kind, text, call)
-}
-
-// A reader's case: the image is the first part of `text`.
-fn read(line: &[u8], out: &mut [u8], at: usize, text: &mut [u8]) -> usize {
-    let n = given(second(line), text);
-    readings::read(line, out, at, front(text, n))
-}
+const ROOM: usize = 66000;
 
 // Room for the bytes that a case gives or lends.
-pub type Room = [u8; 66000];
+#[derive(Drop)]
+pub struct Rooms {
+    lent: [u8; ROOM],
+    kind: [u8; ROOM],
+    text: [u8; ROOM],
+}
 
-pub fn answer(
-    line: &[u8],
-    out: &mut [u8],
-    at: usize,
-    room: &mut Room,
-    kind: &mut Room,
-    text: &mut Room,
-) -> usize {
-    let name = first(line);
-    if check::same(name, b"read") {
-        return read(line, out, at, text);
+impl Rooms {
+    pub fn new() -> Rooms {
+        Rooms {
+            lent: [0; ROOM],
+            kind: [0; ROOM],
+            text: [0; ROOM],
+        }
     }
-    let builder = builds::build_call(name);
-    if builder != 0 {
-        return build(line, out, at, room, kind, text, builder);
+
+    // A builder's case: its buffer is as long as the case says, and filled from that number.
+    fn build(&mut self, builder: Builder, line: &[u8], said: &mut Said) {
+        let length = number(word(line, 1));
+        let Some(buffer) = self.lent.get_mut(..length) else {
+            said.text(b"?");
+            return;
+        };
+        generate(buffer, length, Bytes::Any);
+        builder.answer(line, said, buffer, &mut self.kind, &mut self.text);
     }
-    let leaf = calls::leaf_call(name);
-    if leaf != 0 {
-        return calls::leaf(line, out, at, room, leaf);
+
+    // A reader's case.
+    fn read(&mut self, line: &[u8], said: &mut Said) {
+        let n = given(word(line, 1), &mut self.text);
+        readings::read(line, said, front(&self.text, n));
     }
-    let length = calls::length_call(name);
-    if length != 0 {
-        return calls::length(line, out, at, length);
+
+    pub fn answer(&mut self, line: &[u8], said: &mut Said) {
+        let name = word(line, 0);
+        if name == b"read".as_slice() {
+            self.read(line, said);
+        } else if let Some(builder) = Builder::of(name) {
+            self.build(builder, line, said);
+        } else if let Some(call) = Call::of(name) {
+            call.answer(line, said, &mut self.lent);
+        } else {
+            said.text(b"?");
+        }
     }
-    said::text(out, at, b"?")
 }

@@ -1,67 +1,23 @@
 // An export, on the parts of a session's arrays that are lent.
-use buffers::arrays::{Lent, Reply, State, Transfer};
-use buffers::told::report;
-use cases::given::{given, least};
-use cases::words::third;
-use lines::said;
-use slices::front;
+use buffers::arrays::Arrays;
+use buffers::names::Export;
+use buffers::told::{Told, report};
+use cases::given::given;
+use cases::words::word;
+use lines::said::{Said, digest};
 
-// Lends the parts of the arrays.
-fn step(
-    line: &[u8],
-    call: usize,
-    lent: Lent,
-    state: &mut [u8],
-    transfer: &mut [u8],
-    reply: &mut [u8],
-    data: &[u8],
-    out: &[u8],
-) -> u64 {
-    let a = least(lent.state, state.len());
-    let b = least(lent.transfer, transfer.len());
-    let d = least(lent.reply, reply.len());
-    let s = &mut state[..a];
-    let t = &mut transfer[..b];
-    let r = &mut reply[..d];
-    operations::step(
-        line,
-        call,
-        s,
-        t,
-        r,
-        front(data, lent.data),
-        front(out, lent.out),
-    )
-}
-
-// Calls an export. A reply's bytes are put into the reply array first, as a host does; for other exports the line gives none.
-pub fn export(
-    line: &[u8],
-    said: &mut [u8],
-    at: usize,
-    call: usize,
-    lent: Lent,
-    state: &mut State,
-    transfer: &mut Transfer,
-    reply: &mut Reply,
-    data: &[u8],
-    out: &[u8],
-) -> usize {
-    if call == 15 {
-        given(third(line), reply);
+// Calls an export. A reply's bytes are put into the reply array first, as a host does.
+pub fn answer(export: Export, line: &[u8], said: &mut Said, arrays: &mut Arrays) {
+    if let Export::Reply = export {
+        given(word(line, 2), &mut arrays.reply);
     }
-    let before = said::digest(state);
-    let step = step(line, call, lent, state, transfer, reply, data, out);
-    let after = said::digest(state);
-    let dirty = skipnadur::replies::skp_tag_dirty(front(state, lent.state));
-    report(
-        line,
-        said,
-        at,
+    let before = digest(&arrays.state);
+    let step = operations::step(line, export, arrays.lent());
+    let dirty = operations::step(line, Export::Dirty, arrays.lent());
+    let told = Told {
         step,
         dirty,
-        before != after,
-        transfer,
-        reply,
-    )
+        changed: before != digest(&arrays.state),
+    };
+    report(line, said, told, arrays);
 }

@@ -8,117 +8,50 @@
 mod codec;
 mod exports;
 
-use crate::codec::Room;
-use buffers::arrays::{Data, Lent, Reply, State, Transfer};
-use buffers::{arrays, names};
-use cases::words::first;
+use crate::codec::Rooms;
+use buffers::arrays::Arrays;
+use buffers::names::{Export, OnArrays};
+use cases::words::word;
+use lines::said::Said;
 use lines::stream::Feed;
-use lines::{said, stream};
 use std::io::{Read, Result, Write};
 
-// The end of a line that was answered; the answers are written out once half a buffer is full.
-fn end_line<W: Write>(to: &mut W, said: &mut [u8], at: usize, feed: Feed) -> Result<Feed> {
-    let end = said::text(said, at, b"\n");
-    let next = stream::flushed(to, said, end, 131072)?;
-    Ok(stream::after(feed, next))
-}
-
-// Answers the line that stands in the input.
-fn answered<W: Write>(
-    to: &mut W,
-    input: &[u8],
-    feed: Feed,
-    lent: Lent,
-    said: &mut [u8],
-    state: &mut State,
-    transfer: &mut Transfer,
-    reply: &mut Reply,
-    data: &mut Data,
-    out: &mut Data,
-    room: &mut Room,
-    kind: &mut Room,
-    text: &mut Room,
-) -> Result<Feed> {
-    let line = stream::line(input, feed);
-    let call = names::export(first(line));
-    if call != 0 {
-        let a = exports::export(
-            line, said, feed.at, call, lent, state, transfer, reply, data, out,
-        );
-        return end_line(to, said, a, feed);
+// Answers a line. An operation on the arrays alone is answered by its name.
+fn answer(line: &[u8], said: &mut Said, arrays: &mut Arrays, rooms: &mut Rooms) {
+    let name = word(line, 0);
+    if let Some(export) = Export::of(name) {
+        exports::answer(export, line, said, arrays);
+    } else if let Some(operation) = OnArrays::of(name) {
+        arrays.apply(operation, line);
+        said.text(name);
+    } else {
+        rooms.answer(line, said);
     }
-    let operation = names::on_arrays(first(line));
-    if operation != 0 {
-        arrays::prepare(line, operation, state, transfer, reply, data, out);
-        let a = said::text(said, feed.at, first(line));
-        return end_line(to, said, a, feed);
-    }
-    let a = codec::answer(line, said, feed.at, room, kind, text);
-    end_line(to, said, a, feed)
 }
-
-type Input = [u8; 65536];
-
-type Said = [u8; 262144];
 
 // One turn for each line, and for each read.
-fn run<R: Read, W: Write>(
-    from: &mut R,
-    to: &mut W,
-    input: &mut Input,
-    said: &mut Said,
-    state: &mut State,
-    transfer: &mut Transfer,
-    reply: &mut Reply,
-    data: &mut Data,
-    out: &mut Data,
-    room: &mut Room,
-    kind: &mut Room,
-    text: &mut Room,
-) -> Result<()> {
-    let mut lent = arrays::lent_at_first();
-    let mut feed = stream::begun();
-    let mut turn: u64 = 0;
-    while turn < 1_000_000_000_000 {
-        feed = stream::next(from, to, input, said, feed)?;
-        if feed.ended {
-            return Ok(());
+fn run<R: Read, W: Write>(from: &mut R, to: &mut W) -> Result<()> {
+    let mut feed = Feed::new();
+    let mut said = Said::new();
+    let mut arrays = Arrays::new();
+    let mut rooms = Rooms::new();
+    for _ in 0..u64::MAX {
+        match feed.line() {
+            Some(line) => {
+                answer(line, &mut said, &mut arrays, &mut rooms);
+                said.end_line(to)?;
+            }
+            None => {
+                said.flush(to)?;
+                if !feed.refill(from)? {
+                    break;
+                }
+            }
         }
-        if feed.whole {
-            lent = arrays::lend(stream::line(input, feed), lent);
-            feed = answered(
-                to, input, feed, lent, said, state, transfer, reply, data, out, room, kind, text,
-            )?;
-        }
-        turn += 1;
     }
     Ok(())
 }
 
 fn main(rt: HostRuntime) -> Result<()> {
-    let mut input = [0u8; 65536];
-    let mut said = [0u8; 262144];
-    let mut state = [0u8; 40];
-    let mut transfer = [0u8; 24];
-    let mut reply = [0u8; 72];
-    let mut data = [0u8; 8300];
-    let mut out = [0u8; 8300];
-    let mut room = [0u8; 66000];
-    let mut kind = [0u8; 66000];
-    let mut text = [0u8; 66000];
-    arrays::fill(&mut state, &mut transfer, &mut reply, &mut data, &mut out);
-    run(
-        &mut rt.stdin(),
-        &mut rt.stdout(),
-        &mut input,
-        &mut said,
-        &mut state,
-        &mut transfer,
-        &mut reply,
-        &mut data,
-        &mut out,
-        &mut room,
-        &mut kind,
-        &mut text,
-    )
+    run(&mut rt.stdin(), &mut rt.stdout())
 }

@@ -5,7 +5,6 @@ ghost use Rattle.telling.specs.Left.{Leaves, next_left};
 
 use hearing::heard_at;
 use settling::ask;
-use telling::opening::Heard;
 use telling::step::step;
 
 // The open call's transfer once more; nothing else changes.
@@ -14,7 +13,7 @@ pub fn next(state: &[u8], transfer: &mut [u8], reply: &[u8], lent: &[u8], out: &
 {
     let h = heard_at(state, transfer.len(), reply.len(), lent.len(), out.len());
     match h {
-        Heard::Goes(_, _, st) => ask(transfer, lent, st),
-        Heard::Not(n) => step(0, n, 0, 0),
+        Ok(h) => ask(transfer, lent, h.stage),
+        Err(e) => step(0, u8::from(e), 0, 0),
     }
 }

@@ -1,4 +1,4 @@
-// Where the calls begin that only look at the part or switch it: at their first transfer.
+// Where the calls begin that only look at the part or switch it: at their first transfer. A function for each call; `calling::start` is the one over all.
 #![tactic(auto)]
 
 ghost use Rattle.std.specs.Prelude.{◌≡◌};

@@ -2,14 +2,13 @@
 #![tactic(auto)]
 
 ghost use Rattle.std.specs.Prelude.{◌≡◌, ◌≤◌, length};
-ghost use Rattle.blocks.specs.Read.{message_from, e1_len, container_len, read_of, number_of};
+ghost use Rattle.blocks.specs.Read.{message_from, e1_len, container_len, read_of, unread_number, number_of};
 
-use tlv::{Block, block_at};
+use tlv::{Block, Span, block_at};
 
-// Where the message of an image stands, its place and its length, or why there is none.
+// Why an image has no message.
 #[derive(Clone, Copy)]
-pub enum Message {
-    At(usize, usize),
+pub enum Unread {
     // 11: no container that is known here.
     NoContainer,
     // 12: the blocks end, and none was the message.
@@ -18,37 +17,53 @@ pub enum Message {
     Truncated,
 }
 
-// Document 01's number: 0 where there is a message.
-pub fn number(m: Message) -> u8
-    ensures { result ≡ number_of m }
-{
-    match m {
-        Message::At(_, _) => 0,
-        Message::NoContainer => 11,
-        Message::NoMessage => 12,
-        Message::Truncated => 13,
+// Document 01's number.
+impl From<Unread> for u8 {
+    ghost from_gives = { λ why n. n ≡ unread_number why };
+
+    fn from(why: Unread) -> u8 {
+        match why {
+            Unread::NoContainer => 11,
+            Unread::NoMessage => 12,
+            Unread::Truncated => 13,
+        }
     }
 }
 
-// The message, from a place in the image on. The blocks that are left are a part of the image that starts in the middle.
-fn message_from(image: &[u8], start: usize) -> Message
+// Document 01's number: 0 where there is a message. By itself, as `records::number` and `walk::number` are: `number_of` is what C is promised.
+pub fn number(m: Result<Span, Unread>) -> u8
+    ensures { result ≡ number_of m }
+{
+    match m {
+        Ok(_) => 0,
+        Err(why) => why.into(),
+    }
+}
+
+// The message, from a place in the image on. The blocks that are left are a part of the image that starts in the middle. How far a turn goes is for
+// the block to say, so no iterator counts the turns.
+#[tactic(auto, using(crate::proofs::Blocks::next_there, crate::proofs::Blocks::message_there))]
+fn message_from(image: &[u8], start: usize) -> Result<Span, Unread>
     requires { start ≤ length image.now }
     ensures { result ≡ message_from image.now start }
 {
     let mut at = start;
     loop {
         match block_at(&image[at..]) {
-            Block::Over(n) => {
-                at = at + n;
+            Some(Block::Over(n)) => {
+                at += n;
             }
-            Block::Body(from, len) => {
-                return Message::At(at + from, len);
+            Some(Block::Body(body)) => {
+                return Ok(Span {
+                    at: at + body.at,
+                    len: body.len,
+                });
             }
-            Block::Stop => {
-                return Message::NoMessage;
+            Some(Block::Stop) => {
+                return Err(Unread::NoMessage);
             }
-            Block::Cut => {
-                return Message::Truncated;
+            None => {
+                return Err(Unread::Truncated);
             }
         }
     }
@@ -61,33 +76,34 @@ fn e1_len(third: u8) -> usize
     if third == 0 { 8 } else { 4 }
 }
 
-// How many bytes the container takes: 0 where it is none.
-fn container_len(image: &[u8]) -> usize
+// How many bytes the container takes.
+#[tactic(auto, unfolding(crate::specs::Read::container_len))]
+fn container_len(image: &[u8]) -> Option<usize>
     ensures { result ≡ container_len image.now }
 {
     if image.len() < 3 {
-        return 0;
+        return None;
     }
-    let magic = image[0];
-    if magic == 0xE1 {
-        return e1_len(image[2]);
+    match image[0] {
+        0xE1 => Some(e1_len(image[2])),
+        0xE2 => Some(8),
+        _ => None,
     }
-    if magic == 0xE2 { 8 } else { 0 }
 }
 
 // The message in an image.
-pub fn read(image: &[u8]) -> Message
+#[tactic(auto, using(crate::proofs::Containers::container_least), unfolding(crate::specs::Read::read_of))]
+pub fn read(image: &[u8]) -> Result<Span, Unread>
     ensures { result ≡ read_of image.now }
 {
-    let n = container_len(image);
-    if n == 0 {
-        return Message::NoContainer;
-    }
+    let Some(n) = container_len(image) else {
+        return Err(Unread::NoContainer);
+    };
     if image.len() < n {
-        return Message::NoContainer;
+        return Err(Unread::NoContainer);
     }
     if image[1] / 64 == 1 {
         return message_from(image, n);
     }
-    Message::NoContainer
+    Err(Unread::NoContainer)
 }

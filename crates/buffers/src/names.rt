@@ -1,114 +1,73 @@
-// Which operation a line's first word means, as a number; 0 for none.
-use cases::words::{after, before};
+// Which operation of a session a line's first word means.
 
 // Operations on the arrays alone.
-pub fn on_arrays(name: &[u8]) -> usize {
-    if check::same(name, b"state") {
-        return 1;
-    }
-    if check::same(name, b"transfer") {
-        return 2;
-    }
-    if check::same(name, b"data") {
-        return 3;
-    }
-    if check::same(name, b"out") {
-        return 4;
-    }
-    if check::same(name, b"fill") {
-        return 5;
-    }
-    if check::same(name, b"lend") {
-        return 6;
-    }
-    0
+#[derive(Clone, Copy)]
+pub enum OnArrays {
+    State,
+    Transfer,
+    Data,
+    Out,
+    Fill,
+    Lend,
 }
 
-fn first_calls(name: &[u8]) -> usize {
-    if check::same(name, b"identify") {
-        return 1;
+impl OnArrays {
+    pub fn of(name: &[u8]) -> Option<OnArrays> {
+        match name {
+            b"state" => Some(OnArrays::State),
+            b"transfer" => Some(OnArrays::Transfer),
+            b"data" => Some(OnArrays::Data),
+            b"out" => Some(OnArrays::Out),
+            b"fill" => Some(OnArrays::Fill),
+            b"lend" => Some(OnArrays::Lend),
+            _ => None,
+        }
     }
-    if check::same(name, b"prepare") {
-        return 2;
-    }
-    if check::same(name, b"wait_ready") {
-        return 3;
-    }
-    if check::same(name, b"rf_off") {
-        return 4;
-    }
-    if check::same(name, b"rf_on") {
-        return 5;
-    }
-    0
 }
 
-fn later_calls(name: &[u8]) -> usize {
-    if check::same(name, b"rf_wrote") {
-        return 6;
-    }
-    if check::same(name, b"scrub") {
-        return 7;
-    }
-    if check::same(name, b"begin") {
-        return 8;
-    }
-    if check::same(name, b"go_live") {
-        return 9;
-    }
-    if check::same(name, b"finish") {
-        return 10;
-    }
-    0
+// Exports, by their names without `skp_`.
+#[derive(Clone, Copy)]
+pub enum Export {
+    New,
+    Dirty,
+    Identify,
+    Prepare,
+    WaitReady,
+    RfOff,
+    RfOn,
+    RfWrote,
+    Scrub,
+    Begin,
+    GoLive,
+    Finish,
+    Write,
+    ReadUser,
+    ReadWhole,
+    Next,
+    Reply,
 }
 
-fn lent_calls(name: &[u8]) -> usize {
-    if check::same(name, b"write") {
-        return 11;
+impl Export {
+    pub fn of(name: &[u8]) -> Option<Export> {
+        match name {
+            b"tag_new" => Some(Export::New),
+            b"tag_dirty" => Some(Export::Dirty),
+            b"tag_identify" => Some(Export::Identify),
+            b"tag_prepare" => Some(Export::Prepare),
+            b"tag_wait_ready" => Some(Export::WaitReady),
+            b"tag_rf_off" => Some(Export::RfOff),
+            b"tag_rf_on" => Some(Export::RfOn),
+            b"tag_rf_wrote" => Some(Export::RfWrote),
+            b"tag_scrub" => Some(Export::Scrub),
+            b"tag_begin" => Some(Export::Begin),
+            b"tag_go_live" => Some(Export::GoLive),
+            b"tag_finish" => Some(Export::Finish),
+            b"tag_write" => Some(Export::Write),
+            b"tag_read_user" => Some(Export::ReadUser),
+            b"tag_read_whole" => Some(Export::ReadWhole),
+            b"tag_next" => Some(Export::Next),
+            b"tag_reply" => Some(Export::Reply),
+            _ => None,
+        }
     }
-    if check::same(name, b"read_user") {
-        return 12;
-    }
-    if check::same(name, b"read_whole") {
-        return 13;
-    }
-    0
-}
-
-fn others(name: &[u8]) -> usize {
-    if check::same(name, b"next") {
-        return 14;
-    }
-    if check::same(name, b"reply") {
-        return 15;
-    }
-    if check::same(name, b"new") {
-        return 16;
-    }
-    if check::same(name, b"dirty") {
-        return 17;
-    }
-    0
-}
-
-fn tag_call(call: &[u8]) -> usize {
-    let other = others(call);
-    if other != 0 {
-        return other;
-    }
-    let lent = lent_calls(call);
-    if lent != 0 {
-        return lent;
-    }
-    let first = first_calls(call);
-    if first != 0 { first } else { later_calls(call) }
-}
-
-// Exports, by their names without `skp_`: 1 to 10 take state, transfer and reply, 11 to 13 data or `out` too; 14 to 17 are `tag_next`,
-// `tag_reply`, `tag_new` and `tag_dirty`.
-pub fn export(name: &[u8]) -> usize {
-    if check::same(before(name, b'_'), b"tag") {
-        return tag_call(after(name, b'_'));
-    }
-    0
 }

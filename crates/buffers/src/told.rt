@@ -1,22 +1,22 @@
-// The answer to an export: its name, the step that it returned, the step of `skp_tag_dirty` afterwards, whether the state's bytes changed, and
-// the whole transfer and reply arrays.
-use cases::words::first;
-use lines::said;
+// The answer to an export.
+use crate::arrays::Arrays;
+use cases::words::word;
+use lines::said::Said;
 
-pub fn report(
-    line: &[u8],
-    said: &mut [u8],
-    at: usize,
-    step: u64,
-    dirty: u64,
-    changed: bool,
-    transfer: &[u8],
-    reply: &[u8],
-) -> usize {
-    let a = said::text(said, at, first(line));
-    let b = said::number(said, a, step as usize);
-    let d = said::number(said, b, dirty as usize);
-    let e = said::number(said, d, changed as usize);
-    let f = said::bytes(said, e, transfer);
-    said::bytes(said, f, reply)
+// What an export came to: the step that it returned, the step of `skp_tag_dirty` afterwards, whether the state's bytes changed.
+#[derive(Clone, Copy)]
+pub struct Told {
+    pub step: u64,
+    pub dirty: u64,
+    pub changed: bool,
+}
+
+// The export's name, what it came to, and the whole transfer and reply arrays.
+pub fn report(line: &[u8], said: &mut Said, told: Told, arrays: &Arrays) {
+    said.text(word(line, 0));
+    said.number(told.step as usize);
+    said.number(told.dirty as usize);
+    said.number(usize::from(told.changed));
+    said.bytes(&arrays.transfer);
+    said.bytes(&arrays.reply);
 }

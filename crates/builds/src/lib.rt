@@ -1,155 +1,114 @@
-// The builders' cases. Which builder a name means is told first, as a number (0 for none), so that no buffer is held while names
-// are compared. `lent` is the buffer that a case lends, whole; `kind` and `text` are room for the bytes that it gives.
+// The builders' cases. `lent` is the buffer that a case lends, whole; `kind` and `text` are room for the bytes that it gives.
 #![tactic(auto)]
 
 use cases::given::given;
-use cases::words::{fifth, fourth, number, third};
-use judging::Built;
+use cases::words::{number, word};
 use layout::refusal::Refusal;
-use lines::said;
-use lines::said::head;
+use lines::said::Said;
 use slices::front;
 
-fn refused(line: &[u8], out: &mut [u8], at: usize, why: Refusal) -> usize {
+// The first four leave the payload to the caller, the others build a whole image.
+#[derive(Clone, Copy)]
+pub enum Builder {
+    Begin,
+    BeginText,
+    BeginMime,
+    Finish,
+    UriImage,
+    TextImage,
+    MimeImage,
+    EmptyImage,
+}
+
+// A refusal's number and values.
+fn refused(line: &[u8], said: &mut Said, why: Refusal) {
+    said.head(line, u32::from(why));
     match why {
-        Refusal::TypeTooLong => head(line, out, at, 1),
         Refusal::TooLong { needed, room } => {
-            let a = head(line, out, at, 2);
-            let b = said::number(out, a, needed);
-            said::number(out, b, room)
+            said.number(needed);
+            said.number(room);
         }
-        Refusal::RecordTooLong(n) => {
-            let a = head(line, out, at, 3);
-            said::number(out, a, n)
-        }
-        Refusal::AreaTooBig => head(line, out, at, 4),
-        Refusal::NotUtf8 => head(line, out, at, 5),
+        Refusal::RecordTooLong(n) => said.number(n),
+        Refusal::TypeTooLong | Refusal::AreaTooBig | Refusal::NotUtf8 => {}
     }
 }
 
 // Number, values, and the whole buffer afterwards.
-fn built(line: &[u8], out: &mut [u8], at: usize, b: Built, lent: &[u8]) -> usize {
-    match b {
-        Built::At(place) => {
-            let a = head(line, out, at, 0);
-            let n = said::number(out, a, place);
-            said::bytes(out, n, lent)
+fn built(line: &[u8], said: &mut Said, end: Result<usize, Refusal>, lent: &[u8]) {
+    match end {
+        Ok(place) => {
+            said.head(line, 0);
+            said.number(place);
         }
-        Built::Refused(why) => {
-            let a = refused(line, out, at, why);
-            said::bytes(out, a, lent)
+        Err(why) => refused(line, said, why),
+    }
+    said.bytes(lent);
+}
+
+impl Builder {
+    pub fn of(name: &[u8]) -> Option<Builder> {
+        match name {
+            b"begin" => Some(Builder::Begin),
+            b"begin_text" => Some(Builder::BeginText),
+            b"begin_mime" => Some(Builder::BeginMime),
+            b"finish" => Some(Builder::Finish),
+            b"uri_image" => Some(Builder::UriImage),
+            b"text_image" => Some(Builder::TextImage),
+            b"mime_image" => Some(Builder::MimeImage),
+            b"empty_image" => Some(Builder::EmptyImage),
+            _ => None,
         }
     }
-}
 
-fn begin_mime(line: &[u8], lent: &mut [u8], kind: &mut [u8]) -> Built {
-    let k = given(fourth(line), kind);
-    opens::begin_mime(
-        lent,
-        number(third(line)),
-        front(kind, k),
-        number(fifth(line)),
-    )
-}
+    fn build(
+        self,
+        line: &[u8],
+        lent: &mut [u8],
+        kind: &mut [u8],
+        text: &mut [u8],
+    ) -> Result<usize, Refusal> {
+        let area = number(word(line, 2));
+        let fourth = word(line, 3);
+        let fifth = word(line, 4);
+        match self {
+            Builder::Begin => begins::begin(lent, area, number(fourth), prefix(fifth)),
+            Builder::BeginText => begins::begin_text(lent, area, number(fourth)),
+            Builder::BeginMime => {
+                opens::begin_mime(lent, area, bytes(fourth, kind), number(fifth))
+            }
+            // Here the number is the place where the payload ends.
+            Builder::Finish => closes::finish(lent, area),
+            Builder::UriImage => {
+                addresses::uri_image(lent, area, bytes(fifth, text), prefix(fourth))
+            }
+            Builder::TextImage => image::text_image(lent, area, bytes(fourth, text)),
+            Builder::MimeImage => {
+                mime::mime_image(lent, area, bytes(fourth, kind), bytes(fifth, text))
+            }
+            Builder::EmptyImage => empty::empty_image(lent, area),
+        }
+    }
 
-fn begin(line: &[u8], lent: &mut [u8]) -> Built {
-    let prefix = (number(fifth(line)) % 256) as u8;
-    begins::begin(lent, number(third(line)), number(fourth(line)), prefix)
-}
-
-// The calls that leave the payload to the caller, and the one that closes.
-fn open(line: &[u8], lent: &mut [u8], kind: &mut [u8], call: usize) -> Built {
-    match call {
-        1 => begin(line, lent),
-        2 => begins::begin_text(lent, number(third(line)), number(fourth(line))),
-        3 => begin_mime(line, lent, kind),
-        _ => closes::finish(lent, number(third(line))),
+    // Builds in `lent`, and answers.
+    pub fn answer(
+        self,
+        line: &[u8],
+        said: &mut Said,
+        lent: &mut [u8],
+        kind: &mut [u8],
+        text: &mut [u8],
+    ) {
+        let end = self.build(line, lent, kind, text);
+        built(line, said, end, lent);
     }
 }
 
-fn uri_image(line: &[u8], lent: &mut [u8], text: &mut [u8]) -> Built {
-    let n = given(fifth(line), text);
-    let prefix = (number(fourth(line)) % 256) as u8;
-    addresses::uri_image(lent, number(third(line)), front(text, n), prefix)
+fn prefix(word: &[u8]) -> u8 {
+    (number(word) % 256) as u8
 }
 
-fn text_image(line: &[u8], lent: &mut [u8], text: &mut [u8]) -> Built {
-    let n = given(fourth(line), text);
-    image::text_image(lent, number(third(line)), front(text, n))
-}
-
-fn mime_image(line: &[u8], lent: &mut [u8], kind: &mut [u8], text: &mut [u8]) -> Built {
-    let k = given(fourth(line), kind);
-    let n = given(fifth(line), text);
-    mime::mime_image(lent, number(third(line)), front(kind, k), front(text, n))
-}
-
-// The calls that build a whole image.
-fn whole(line: &[u8], lent: &mut [u8], kind: &mut [u8], text: &mut [u8], call: usize) -> Built {
-    match call {
-        5 => uri_image(line, lent, text),
-        6 => text_image(line, lent, text),
-        7 => mime_image(line, lent, kind, text),
-        _ => empty::empty_image(lent, number(third(line))),
-    }
-}
-
-fn open_call(name: &[u8]) -> usize {
-    if check::same(name, b"begin") {
-        return 1;
-    }
-    if check::same(name, b"begin_text") {
-        return 2;
-    }
-    if check::same(name, b"begin_mime") {
-        return 3;
-    }
-    if check::same(name, b"finish") {
-        return 4;
-    }
-    0
-}
-
-fn whole_call(name: &[u8]) -> usize {
-    if check::same(name, b"uri_image") {
-        return 5;
-    }
-    if check::same(name, b"text_image") {
-        return 6;
-    }
-    if check::same(name, b"mime_image") {
-        return 7;
-    }
-    if check::same(name, b"empty_image") {
-        return 8;
-    }
-    0
-}
-
-// Which builder a name means: 1 to 4 leave the payload to the caller, 5 to 8 build a whole image.
-pub fn build_call(name: &[u8]) -> usize {
-    let call = open_call(name);
-    if call == 0 { whole_call(name) } else { call }
-}
-
-fn build(line: &[u8], lent: &mut [u8], kind: &mut [u8], text: &mut [u8], call: usize) -> Built {
-    if call < 5 {
-        open(line, lent, kind, call)
-    } else {
-        whole(line, lent, kind, text, call)
-    }
-}
-
-// Builds in `lent`, and answers.
-pub fn answer(
-    line: &[u8],
-    out: &mut [u8],
-    at: usize,
-    lent: &mut [u8],
-    kind: &mut [u8],
-    text: &mut [u8],
-    call: usize,
-) -> usize {
-    let b = build(line, lent, kind, text, call);
-    built(line, out, at, b, lent)
+// The bytes that a word gives, in `room`.
+fn bytes<'a>(word: &[u8], room: &'a mut [u8]) -> &'a [u8] {
+    let n = given(word, room);
+    front(room, n)
 }

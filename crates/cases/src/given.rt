@@ -12,53 +12,52 @@ fn digit(c: u8) -> u8
     (c - b'a') % 6 + 10
 }
 
-pub fn least(a: usize, b: usize) -> usize
-    ensures { (result ≤ a) × (result ≤ b) }
-{
-    if a < b { a } else { b }
-}
-
 // The pairs of `s`, as many as fit; how many there are.
 fn from_hex(s: &[u8], into: &mut [u8]) -> usize
     ensures { result ≤ length into.new }
 {
-    let n = least(into.len(), s.len() / 2);
-    let mut i = 0;
-    while i < n {
-        into[i] = digit(s[i * 2]) * 16 + digit(s[i * 2 + 1]);
-        i += 1;
+    let (pairs, _) = s.as_chunks::<2>();
+    for (byte, [high, low]) in into.iter_mut().zip(pairs) {
+        *byte = digit(*high) * 16 + digit(*low);
     }
-    n
+    pairs.len().min(into.len())
 }
 
-fn shown(b: u8, printable: bool) -> u8 {
-    if printable {
-        return b % 95 + 32;
-    }
-    b
+// Which bytes a seed gives: any, or those that can be printed.
+#[derive(Clone, Copy)]
+pub enum Bytes {
+    Any,
+    Printable,
 }
 
-// Fills the slice from a seed: any bytes, or printable ones.
-pub fn generate(into: &mut [u8], seed: usize, printable: bool)
+impl Bytes {
+    fn shown(self, b: u8) -> u8 {
+        match self {
+            Bytes::Any => b,
+            Bytes::Printable => b % 95 + 32,
+        }
+    }
+}
+
+// Fills the slice from a seed.
+pub fn generate(into: &mut [u8], seed: usize, bytes: Bytes)
     ensures { length into.new ≡ length into.old }
 {
     let mut x: usize = seed % 0x1_0000_0000;
-    let mut i = 0;
-    while i < into.len() {
+    for byte in into {
         x = (x * 1103515245 + 12345) % 0x1_0000_0000;
-        into[i] = shown((x / 65536 % 256) as u8, printable);
-        i += 1;
+        *byte = bytes.shown((x / 65536 % 256) as u8);
     }
 }
 
-fn generated(s: &[u8], into: &mut [u8], printable: bool) -> usize
+fn generated(s: &[u8], into: &mut [u8], bytes: Bytes) -> usize
     ensures { result ≤ length into.new }
 {
     let n = number(before(s, b':'));
     if into.len() < n {
         return 0;
     }
-    generate(&mut into[..n], number(after(s, b':')), printable);
+    generate(&mut into[..n], number(after(s, b':')), bytes);
     n
 }
 
@@ -66,14 +65,9 @@ fn generated(s: &[u8], into: &mut [u8], printable: bool) -> usize
 pub fn given(word: &[u8], into: &mut [u8]) -> usize
     ensures { result ≤ length into.new }
 {
-    if word.len() == 0 {
-        return 0;
+    match word {
+        [b'@', rest @ ..] => generated(rest, into, Bytes::Any),
+        [b'=', rest @ ..] => generated(rest, into, Bytes::Printable),
+        _ => from_hex(word, into),
     }
-    if word[0] == b'@' {
-        return generated(&word[1..], into, false);
-    }
-    if word[0] == b'=' {
-        return generated(&word[1..], into, true);
-    }
-    from_hex(word, into)
 }

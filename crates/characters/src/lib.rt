@@ -6,8 +6,9 @@ ghost use Rattle.utf8.specs.Utf8.{first_len};
 
 use tails::rest;
 
-// How many bytes the character at `i` takes, or 0. A case for each row of the table: its first byte's range, how many bytes it has,
-// and its second byte's range; a byte after that is one of 80..BF in every row. ASCII, the most frequent, is tested by itself.
+// How many bytes the character at `i` takes, or 0: no Option, since the definition `first_len` gives 0 where no row fits, and so does each row's
+// test. A case for each row of the table: its first byte's range, how many bytes it has, and its second byte's range; a byte after that is one of
+// 80..BF in every row. ASCII, the most frequent, is tested by itself.
 pub fn first_len(s: &[u8], i: usize) -> usize
     requires { i < length s.now }
     ensures { result ≡ first_len (drop i s.now) }

@@ -4,21 +4,20 @@
 ghost use Rattle.std.specs.Prelude.{◌≡◌, length};
 ghost use Rattle.closes.specs.Closes.{finish_answer, finish_after};
 
-use judging::Built;
 use layout::refusal::Refusal;
-use lengths::sat_add;
 
 // Closes the image: the terminator at `at`, where the payload ended. Only that byte changes.
-pub fn finish(out: &mut [u8], at: usize) -> Built
+#[tactic(auto, using(std::proofs::lemmas::Grind::common_steps), unfolding(crate::specs::Closes::finish_answer, crate::specs::Closes::finish_after))]
+pub fn finish(out: &mut [u8], at: usize) -> Result<usize, Refusal>
     ensures value { result ≡ finish_answer (length out.old) at }
     ensures out_after { out.new ≡ finish_after out.old at }
 {
     if out.len() <= at {
-        return Built::Refused(Refusal::TooLong {
-            needed: sat_add(at, 1),
+        return Err(Refusal::TooLong {
+            needed: at.saturating_add(1),
             room: out.len(),
         });
     }
     out[at] = 0xFE;
-    Built::At(at + 1)
+    Ok(at + 1)
 }

@@ -4,26 +4,18 @@
 ghost use Rattle.std.specs.Prelude.{◌≡◌};
 ghost use Rattle.layout.specs.Container.{container_answer, read_only};
 
-use layout::container::Container;
-use layout::refusal::{Refusal, Verdict};
+use layout::refusal::Refusal;
 
 // The container of a tag whose area is `area` bytes, of which it counts whole blocks of eight. 4 over 524,287.
-pub fn capability_container(area: usize) -> Container
+pub fn capability_container(area: usize) -> Result<[u8; 8], Refusal>
     ensures { result ≡ container_answer area }
 {
     if 524287 < area {
-        return Container {
-            verdict: Verdict::Not(Refusal::AreaTooBig),
-            bytes: [0u8; 8],
-        };
+        return Err(Refusal::AreaTooBig);
     }
     let blocks = area / 8;
-    let high = (blocks / 256 % 256) as u8;
-    let low = (blocks % 256) as u8;
-    Container {
-        verdict: Verdict::Fits,
-        bytes: [0xE2, 0x40, 0x00, 0x01, 0x00, 0x00, high, low],
-    }
+    let [high, low] = (blocks as u16).to_be_bytes();
+    Ok([0xE2, 0x40, 0x00, 0x01, 0x00, 0x00, high, low])
 }
 
 // Marks an image as one that a phone should not write to. Below two bytes there is no access byte, and nothing happens.

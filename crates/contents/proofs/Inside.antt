@@ -15,13 +15,15 @@ use borrow.Author.Tests.{leb-true}
 use lib.ListN.{length, take, drop, length-drop}
 use lib.Seq.{take-add, drop_at, drop-drop, length-take-le}
 use lib.Dec.{leb, ltb}
+use Rattle.std.specs.Prelude.{Option, Some, None}
 use Rattle.slices.proofs.Cases.{pick_cases}
 use Rattle.utf8.specs.Utf8.{utf8}
 use Rattle.records.specs.declared.Record.{Record}
 use Rattle.pieces.specs.Parts.{is_of, payload_of}
 use Rattle.pieces.proofs.Parts.{part-inside}
-use Rattle.contents.specs.declared.Part.{Part}
-use Rattle.contents.specs.declared.Part.TheVariants.{At, Nothing}
+use Rattle.tlv.specs.declared.Span.{Span}
+use Rattle.tlv.specs.Blocks.{span}
+use Rattle.tlv.proofs.Blocks.{same_span}
 use Rattle.contents.specs.Contents.{payload_at, text_in, text_of}
 use Rattle.contents.proofs.Cases.{part_there}
 
@@ -38,22 +40,22 @@ pub record Stands (s q : List ℕ) (p n : ℕ) : Type 0 where
   pub bytes : take n (drop p s) ≡ drop before q
   pub text : utf8 (take n (drop p s)) ≡ true
 
-pub never : {p n : ℕ} → Nothing ≡ At p n → ⊥
+pub never : {p n : ℕ} → None ≡ Some (span p n) → ⊥
 never e = let z : ◌≡◌ {A = ℕ} 0 1 = cc in omega arith
 
-text_rest : (q : List ℕ) (at : ℕ) {p n : ℕ} → text_in q at ≡ At p n → Rest q at p n
+text_rest : (q : List ℕ) (at : ℕ) {p n : ℕ} → text_in q at ≡ Some (span p n) → Rest q at p n
 unfolding text_in
 text_rest [] at e = absurd (never e)
 text_rest (status ∷ rest) at {p} {n} e =
-    pick_cases (λ (x : Part). x ≡ At p n → Rest (status ∷ rest) at p n) (ltb status 128)
-    (λ _. pick_cases (λ (x : Part). x ≡ At p n → Rest (status ∷ rest) at p n) (leb (status % 64) (length rest))
-    (λ w. pick_cases (λ (x : Part). x ≡ At p n → Rest (status ∷ rest) at p n) (utf8 (drop (status % 64) rest))
+    pick_cases (λ (x : Option Span). x ≡ Some (span p n) → Rest (status ∷ rest) at p n) (ltb status 128)
+    (λ _. pick_cases (λ (x : Option Span). x ≡ Some (span p n) → Rest (status ∷ rest) at p n) (leb (status % 64) (length rest))
+    (λ w. pick_cases (λ (x : Option Span). x ≡ Some (span p n) → Rest (status ∷ rest) at p n) (utf8 (drop (status % 64) rest))
     (λ u e. let l : status % 64 ≤ length rest = leb-true _ _ w in
-    let m : length rest - status % 64 ≡ n = cc in
+    let same = same_span e in
     record {
       before = status % 64 + 1;
       some = omega arith;
-      place = cc;
+      place = sym same.0;
       len = omega arith;
       text = ap (λ (k : ℕ). utf8 (drop k (status ∷ rest))) (add-one (status % 64)) ∙ u;
     })
@@ -85,10 +87,10 @@ stands s r {p} {n} t =
       text = ap utf8 (sym b) ∙ t.text;
     }
 
-pub text_stands : (s : List ℕ) (r : Record) {p n : ℕ} → text_of s r ≡ At p n → Stands s (payload_of s r) p n
+pub text_stands : (s : List ℕ) (r : Record) {p n : ℕ} → text_of s r ≡ Some (span p n) → Stands s (payload_of s r) p n
 unfolding text_of
 text_stands s r {p} {n} e =
-    pick_cases (λ (x : Part). x ≡ At p n → Stands s (payload_of s r) p n) (is_of s r 0x54)
+    pick_cases (λ (x : Option Span). x ≡ Some (span p n) → Stands s (payload_of s r) p n) (is_of s r 0x54)
     (λ _ e. stands s r (text_rest (payload_of s r) (payload_at r) e))
     (λ _ e. absurd (never e))
     e

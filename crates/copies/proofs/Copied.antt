@@ -1,25 +1,38 @@
--- A copy that is under way: its next bytes, which are a part of the slice.
-use mathlib.Core.Path.{◌≡◌, ap, sym, subst, ◌∙◌}
-use mathlib.Core.List.{List}
-use Prim.Native.Nat.{ℕ, ◌+◌, ◌-◌, ◌≤◌}
+-- A copy that is under way: what is written, and what of the slice is still to come.
+use mathlib.Core.Path.{◌≡◌, refl, ap, sym, subst, ◌∙◌}
+use mathlib.Core.List.{List, [], ◌∷◌, ◌++◌}
+use Prim.Native.Nat.{ℕ, ◌+◌, ◌≤◌}
 use native.Mathlib.Omega.{arith}
-use lib.ListN.{length, take, drop, length-drop}
-use lib.Seq.{length-take-le, take-add}
-use Rattle.slices.specs.Bytes.{splice, Wrote}
-use Rattle.slices.proofs.Splice.{chain}
+use Rattle.std.proofs.Common.{append_assoc, append-nil}
+use lib.ListN.{length, length-append}
+use Rattle.slices.specs.Bytes.{Wrote}
+use Rattle.slices.proofs.Splice.{chain, splice-none}
 
--- the part of a slice from i to i + n is its n bytes from i on
-pub part-is : (s : List ℕ) (i n : ℕ) → take (i + n - i) (drop i s) ≡ take n (drop i s)
-part-is s i n =
-    let e : i + n - i ≡ n = omega arith in
-    ap (λ (m : ℕ). take m (drop i s)) e
+-- `done` is written and `rest` is not
+pub record Copied (before : List ℕ) (at : ℕ) (src rest after : List ℕ) (next : ℕ) : Type 0 where
+  pub done : List ℕ
+  pub cut : src ≡ done ++ rest
+  pub wrote : Wrote before at done after next
 
-pub part_length : (s : List ℕ) (i n : ℕ) → i + n ≤ length s → length (take (i + n - i) (drop i s)) ≡ n
-part_length s i n h = ap length (part-is s i n) ∙ length-take-le n (drop i s) (omega (arith, length-drop i s))
+pub copied_none : (before : List ℕ) (at : ℕ) (src : List ℕ) → Copied before at src src before at
+copied_none before at src = record { done = []; cut = refl; wrote = record { bytes = sym (splice-none _ _); place = omega arith } }
 
--- a copy that has come as far as i, and the next n bytes
-pub copied_on : {o₀ o₁ o₂ : List ℕ} {at r : ℕ} (s : List ℕ) (i n : ℕ) → i + n ≤ length s → at + length s ≤ length o₀
-    → Wrote o₀ at (take i s) o₁ (at + i) → Wrote o₁ (at + i) (take (i + n - i) (drop i s)) o₂ r → Wrote o₀ at (take (i + n) s) o₂ (at + (i + n))
-copied_on {o₀} {o₁} {o₂} {at} {r} s i n h fits w v =
-    let c = chain (omega arith) w (subst (λ (bs : List ℕ). Wrote o₁ (at + i) bs o₂ r) (part-is s i n) v) in
-    record { bytes = c.bytes ∙ ap (splice o₀ at) (sym (take-add i n s)); place = ap (λ (m : ℕ). at + m) (sym (length-take-le (i + n) s h)) }
+-- there is room for what is still to come
+pub copied_room : {before src rest after : List ℕ} {at next : ℕ} → at + length src ≤ length before → Copied before at src rest after next → next + length rest ≤ length before
+copied_room {rest = rest} fits c = omega (arith, fits, c.wrote.place, ap length c.cut, length-append c.done rest)
+
+-- the next part
+pub copied_on : {before src part rest after later : List ℕ} {at next n : ℕ} → at + length src ≤ length before
+    → Copied before at src (part ++ rest) after next → Wrote after next part later n → Copied before at src rest later n
+copied_on {part = part} {rest} fits c w =
+    let room = copied_room fits c in
+    record {
+      done = c.done ++ part;
+      cut = c.cut ∙ sym (append_assoc c.done part rest);
+      wrote = chain (omega (arith, room)) c.wrote w;
+    }
+
+-- nothing is still to come
+pub copied_all : {before src after : List ℕ} {at next : ℕ} (rest : List ℕ) → length rest ≡ 0 → Copied before at src rest after next → Wrote before at src after next
+copied_all {before} {src} {after} {at} {next} [] e c = subst (λ (bs : List ℕ). Wrote before at bs after next) (sym (c.cut ∙ append-nil c.done)) c.wrote
+copied_all (b ∷ bs) e c = absurd (omega arith)

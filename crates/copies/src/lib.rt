@@ -1,17 +1,10 @@
 // A long slice into a lent buffer, in parts: what a payload is copied by. Knows nothing of NFC.
 #![tactic(auto)]
 
-ghost use Rattle.std.specs.Prelude.{◌≡◌, ◌+◌, ◌≤◌, min, length};
+ghost use Rattle.std.specs.Prelude.{◌+◌, ◌≤◌, length};
 ghost use Rattle.slices.specs.Bytes.{Wrote};
 
 use slices::copy_to;
-
-// How much of what is left goes at a time.
-fn part_len(left: usize) -> usize
-    ensures { result ≡ min left 8192 }
-{
-    if left < 8192 { left } else { 8192 }
-}
 
 // A part of at most 8,192 bytes, through a local array. The compiler cannot know that `out` and `src` lie apart, but a local array does from
 // both: it makes of the two copies one, by the C library's move, and no array is left on the stack.
@@ -30,11 +23,9 @@ pub fn copy_long(out: &mut [u8], at: usize, src: &[u8]) -> usize
     requires { at + length src.now ≤ length out.old }
     ensures { Wrote out.old at src.now out.new result }
 {
-    let mut i = 0;
-    while i < src.len() {
-        let n = part_len(src.len() - i);
-        copy_part(out, at + i, &src[i..i + n]);
-        i += n;
+    let mut next = at;
+    for part in src.chunks(8192) {
+        next = copy_part(out, next, part);
     }
-    at + i
+    next
 }

@@ -46,5 +46,5 @@ fn stage_row(st: Stage) -> bool
 pub fn stage_count(st: Stage, ack: bool) -> usize
     ensures { StageCount st ack result }
 {
-    if ack & stage_row(st) { 1 } else { 0 }
+    usize::from(ack & stage_row(st))
 }

@@ -5,8 +5,7 @@
 --   moved s c            == the cursor c, moved on
 use Rattle.std.specs.Prelude.{List, ℕ}
 use Rattle.walk.specs.declared.Cursor.{Cursor}
-use Rattle.walk.specs.declared.Entry.{Entry}
-use Rattle.walk.specs.Step.{step_of}
+use Rattle.walk.specs.Step.{Entry, step_of}
 
 abbrev pub entry_of : List ℕ → Cursor → Entry
 entry_of s c = (step_of s c.at c.end).entry

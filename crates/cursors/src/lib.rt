@@ -8,12 +8,10 @@ use walk::{Cursor, Entry};
 use walking::step;
 
 // What stands at the cursor, which moves on.
-pub fn next<'a, 'b>(image: &'a [u8], c: &'b mut Cursor) -> Entry
+pub fn next(image: &[u8], c: &mut Cursor) -> Entry
     ensures { (result ≡ entry_of image.now c.old) × (c.new ≡ moved image.now c.old) }
 {
-    let at = c.at;
-    let end = c.end;
-    let s = step(image, at, end);
+    let s = step(image, c.at, c.end);
     c.at = s.next;
     s.entry
 }

@@ -17,59 +17,42 @@ use stand::plan::Plan;
 use std::env::Env;
 use std::io::{Result, Write};
 
-fn full() -> Plan {
-    Plan {
-        every: 1,
-        sessions: 64,
-        total: 0,
-    }
-}
+const FULL: Plan = Plan {
+    name: "full",
+    every: 1,
+    sessions: 64,
+    total: None,
+};
 
-fn short() -> Plan {
-    Plan {
-        every: 199,
-        sessions: 16,
-        total: 0,
-    }
-}
+const SHORT: Plan = Plan {
+    name: "short",
+    every: 199,
+    sessions: 16,
+    total: None,
+};
 
 // Whether a word is a decimal number.
 fn is_number(word: &[u8]) -> bool {
-    let mut ok = 0 < word.len();
-    let mut i = 0;
-    while i < word.len() {
-        ok = ok & (b'0' <= word[i]) & (word[i] <= b'9');
-        i += 1;
-    }
-    ok
+    !word.is_empty() && word.iter().all(u8::is_ascii_digit)
 }
 
 // Counts the cuts first, without cutting, so that progress can tell how many there will be.
-fn run<O: Write, E: Write>(
-    out: &mut O,
-    err: &mut E,
-    how: &[u8],
-    plan: Plan,
-    seed: u64,
-) -> Result<()> {
+fn run<O: Write, E: Write>(out: &mut O, err: &mut E, plan: Plan, seed: u64) -> Result<()> {
     let counted = all(err, plan, seed)?;
     let whole = Plan {
-        every: plan.every,
-        sessions: plan.sessions,
-        total: counted.cuts,
+        total: Some(counted.cuts),
+        ..plan
     };
-    let t = all(err, whole, seed)?;
-    summary(out, how, whole, seed, t)
+    let tally = all(err, whole, seed)?;
+    summary(out, whole, seed, tally)
 }
 
 fn chosen<O: Write, E: Write>(out: &mut O, err: &mut E, how: &[u8], seed: u64) -> Result<()> {
-    if check::same(how, b"full") {
-        return run(out, err, how, full(), seed);
+    match how {
+        b"full" => run(out, err, FULL, seed),
+        b"short" => run(out, err, SHORT, seed),
+        _ => complain(err, "the first word is full or short, not", how),
     }
-    if check::same(how, b"short") {
-        return run(out, err, how, short(), seed);
-    }
-    complain(err, b"the first word is full or short, not", how)
 }
 
 fn main(rt: HostRuntime) -> Result<()> {
@@ -85,5 +68,5 @@ fn main(rt: HostRuntime) -> Result<()> {
     if is_number(&word[..k]) {
         return chosen(&mut out, &mut err, &how[..n], number(&word[..k]) as u64);
     }
-    complain(&mut err, b"the seed is a decimal number, not", &word[..k])
+    complain(&mut err, "the seed is a decimal number, not", &word[..k])
 }

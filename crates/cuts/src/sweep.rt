@@ -4,107 +4,69 @@ use reports::progress;
 use rig::attempt::STEPS;
 use rig::trial::trial;
 use rig::turn::turn;
-use stand::bench::{Bench, Identity, Memory, Reply, State, Transfer, kind, started};
+use stand::bench::{Bench, Session, Tile};
 use stand::plan::Plan;
-use stand::tally::{Tally, counted, ended, stepped};
+use stand::step::Step;
+use stand::tally::Tally;
 use std::io::{Result, Write};
 
+// A session under way, and what the trials add up to. The plan and the writer are no fields: they go on from day to day.
 #[derive(Clone, Copy)]
-pub struct Swept {
+pub struct Day {
     pub bench: Bench,
+    pub tile: Tile,
+    pub session: Session,
     pub tally: Tally,
 }
 
-// One cut, or one more counted.
-fn tried<W: Write>(
-    to: &mut W,
-    b: Bench,
-    delayed: bool,
-    plan: Plan,
-    identity: &Identity,
-    memory: &Memory,
-    t: Tally,
-) -> Result<Tally> {
-    if plan.total == 0 {
-        return Ok(counted(t));
-    }
-    let u = trial(b, delayed, identity, memory, t);
-    if u.cuts % 1000 == 0 {
-        progress(to, u, plan.total)?;
-    }
-    Ok(u)
-}
-
-// A turn of the session, and the cut after it.
-fn cut_turn<W: Write>(
-    to: &mut W,
-    s: Swept,
-    plan: Plan,
-    identity: &Identity,
-    memory: &mut Memory,
-    state: &mut State,
-    transfer: &mut Transfer,
-    reply: &mut Reply,
-    lent: &[u8],
-    out: &mut [u8],
-) -> Result<Swept> {
-    let was = s.bench;
-    let before = s.tally;
-    let t = stepped(before);
-    let bench = turn(was, identity, memory, state, transfer, reply, lent, out);
-    if plan.every != 0 {
-        if t.steps % plan.every == 0 {
-            let tally = tried(to, bench, kind(was.step) == 4, plan, identity, memory, t)?;
-            return Ok(Swept { bench, tally });
+impl Day {
+    // One cut, or one more counted.
+    fn tried<W: Write>(&mut self, to: &mut W, plan: Plan, delayed: bool) -> Result<()> {
+        let Some(total) = plan.total else {
+            self.tally.count_cut();
+            return Ok(());
+        };
+        trial(self.bench, delayed, &self.tile, &mut self.tally);
+        if self.tally.cuts % 1000 == 0 {
+            progress(to, self.tally, total)?;
         }
+        Ok(())
     }
-    Ok(Swept { bench, tally: t })
-}
 
-// The call whose first step is given, to its answer.
-pub fn sweep<W: Write>(
-    to: &mut W,
-    from: Swept,
-    plan: Plan,
-    identity: &Identity,
-    memory: &mut Memory,
-    state: &mut State,
-    transfer: &mut Transfer,
-    reply: &mut Reply,
-    lent: &[u8],
-    out: &mut [u8],
-) -> Result<Swept> {
-    let mut s = from;
-    let mut left = STEPS;
-    while 0 < left {
-        if over(s) {
-            return Ok(s);
+    // A turn of the session, and the cut after it.
+    fn cut_turn<W: Write>(
+        &mut self,
+        to: &mut W,
+        plan: Plan,
+        data: &[u8],
+        out: &mut [u8],
+    ) -> Result<()> {
+        let delayed = matches!(self.bench.step, Step::Delay { .. });
+        self.tally.step();
+        self.bench = turn(self.bench, &mut self.tile, &mut self.session, data, out);
+        if plan.every != 0 && self.tally.steps % plan.every == 0 {
+            self.tried(to, plan, delayed)?;
         }
-        s = cut_turn(
-            to, s, plan, identity, memory, state, transfer, reply, lent, out,
-        )?;
-        left -= 1;
+        Ok(())
     }
-    Ok(s)
-}
 
-fn over(s: Swept) -> bool {
-    let b = s.bench;
-    kind(b.step) == 0
-}
-
-// At the first step of a call.
-pub fn opened(s: Swept, step: u64) -> Swept {
-    let b = s.bench;
-    let tally = s.tally;
-    let bench = started(b, step);
-    Swept { bench, tally }
-}
-
-// At its answer, which is to be Ok.
-pub fn answered(s: Swept) -> Swept {
-    let bench = s.bench;
-    let t = s.tally;
-    let tally = ended(t, bench);
-    Swept { bench, tally }
+    // A call from its first step to its answer, which is to be Ok.
+    pub fn sweep<W: Write>(
+        &mut self,
+        to: &mut W,
+        plan: Plan,
+        step: u64,
+        data: &[u8],
+        out: &mut [u8],
+    ) -> Result<()> {
+        self.bench = self.bench.started(Step::from(step));
+        for _ in 0..STEPS {
+            if self.bench.is_over() {
+                break;
+            }
+            self.cut_turn(to, plan, data, out)?;
+        }
+        self.tally.end(self.bench);
+        Ok(())
+    }
 }

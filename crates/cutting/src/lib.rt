@@ -5,11 +5,11 @@ ghost use Rattle.std.specs.Prelude.{◌≡◌, ◌≤◌};
 ghost use Rattle.scan.specs.Rows.{row_len, row_count};
 
 // How many of `left` bytes at `at` lie in the row of `at`.
+#[tactic(auto, unfolding(scan::specs::Rows::row_len))]
 pub fn row_len(at: usize, left: usize) -> usize
     ensures { result ≡ row_len at left }
 {
-    let room = 16 - at % 16;
-    if room < left { room } else { left }
+    (16 - at % 16).min(left)
 }
 
 // How many rows `len` bytes at `at` touch.

@@ -11,25 +11,20 @@ use restoring::session_from;
 use session::session::Session;
 use sound::sound;
 use state::bytes::{STATE_LEN, bytes, flat_of};
-use state::decode::Decoded;
 
-fn decode_flat(f: Flat) -> Decoded
+fn decode_flat(f: Flat) -> Option<Session>
     ensures { result ≡ decode_flat f }
 {
     let s = session_from(f);
-    if own(f) & sound(s) {
-        Decoded::State(s)
-    } else {
-        Decoded::Nothing
-    }
+    if own(f) & sound(s) { Some(s) } else { None }
 }
 
 // The session that the bytes are a state of.
-pub fn decode(b: &[u8]) -> Decoded
+pub fn decode(b: &[u8]) -> Option<Session>
     ensures { result ≡ decode_of b.now }
 {
     if b.len() != STATE_LEN {
-        return Decoded::Nothing;
+        return None;
     }
     decode_flat(flat_of(b))
 }

@@ -1,5 +1,6 @@
 // Numbers and bytes as text, into a lent buffer.
-// Each writer has been given room by its caller; it keeps every other byte and returns the place after what it wrote.
+// Each writer has been given room by its caller; it keeps every other byte and returns the place after what it wrote. That is promised byte by byte
+// (`Wrote`), which std's `write!` does not say of a buffer.
 #![tactic(auto)]
 
 ghost use Rattle.std.specs.Prelude.{◌≡◌, ◌++◌, ◌∷◌, [], ◌+◌, ◌*◌, ◌≤◌, ◌<◌, length};
@@ -43,11 +44,9 @@ fn put_hex(out: &mut [u8], at: usize, s: &[u8]) -> usize
     ensures { Wrote out.old at (hex_of s.now) out.new result }
 {
     let mut a = at;
-    let mut i = 0;
-    while i < s.len() {
-        let b = put(out, a, hex_digit(s[i] / 16));
-        a = put(out, b, hex_digit(s[i] % 16));
-        i += 1;
+    for byte in s {
+        let b = put(out, a, hex_digit(*byte / 16));
+        a = put(out, b, hex_digit(*byte % 16));
     }
     a
 }

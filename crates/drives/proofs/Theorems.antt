@@ -5,6 +5,7 @@ use mathlib.Core.Bool.{true}
 use mathlib.Core.List.{List, ◌∷◌}
 use Prim.Native.Nat.{ℕ, ◌+◌, ◌≤◌}
 use lib.ListN.{length}
+use Rattle.std.specs.Prelude.{Some}
 use Rattle.protocol.specs.Transfer.{Transfer}
 use Rattle.protocol.specs.Mark.{Mark}
 use Rattle.protocol.specs.Call.{Call}
@@ -14,7 +15,6 @@ use Rattle.stages.specs.Turns.{stage_ask, stage_step, start_of, lent_to}
 use Rattle.stages.specs.declared.stage.Turn.{Turn}
 use Rattle.session.specs.Sound.{sound}
 use Rattle.session.specs.Steps.{entered, counted}
-use Rattle.session.specs.declared.session.Now.TheVariants as N
 use Rattle.session.specs.declared.session.Session.{Session}
 use Rattle.runs.specs.Runs.{Runs}
 use Rattle.runs.specs.Runs as runs
@@ -26,7 +26,7 @@ drives : (lent : List ℕ) (r : Report) (t : Turn) (ρ : Replies) (es : List Exc
     → sound (entered r.rows (length lent) t) ≡ true → Drives lent r.rows t ρ es e
 drives lent r t ρ es e runs.ends s = ends
 drives lent r t ρ es e (runs.goes {m = m} {st = st} {t = x} {es = fs} et d) s =
-    let q : Session = record { mark = m; rows = r.rows; lent = length lent; now = N.Open st } in
+    let q : Session = record { mark = m; rows = r.rows; lent = length lent; now = Some st } in
     let c : rows_of (record { transfer = x; reply = ρ 0 }) ≡ counted (stage_ask (length lent) st) (ρ 0).ack =
     ap (λ (y : Transfer). rows_of (record { transfer = y; reply = ρ 0 })) et ∙ counts_rows q st lent (ρ 0) s refl refl in
     let k : (noted r (record { transfer = x; reply = ρ 0 })).rows ≡ r.rows + counted (stage_ask (length lent) st) (ρ 0).ack = ap (λ (n : ℕ). r.rows + n) c in

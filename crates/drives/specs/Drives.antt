@@ -3,10 +3,11 @@
 --
 --   Drives lent k t ρ es end  == from the turn t, with k rows programmed so far and the replies ρ, the exchanges are es and the call ends
 --                                as `end`; its report is the session's own count (`counted`)
-use Rattle.std.specs.Prelude.{◌≡◌, List, [], ◌∷◌, ℕ, ◌+◌, length}
+use Rattle.std.specs.Prelude.{◌≡◌, List, [], ◌∷◌, ℕ, ◌+◌, length, Result}
 use Rattle.protocol.specs.Transfer.{Transfer}
 use Rattle.protocol.specs.Mark.{Mark}
 use Rattle.protocol.specs.Trace.{Replies, later, Exchange, End}
+use Rattle.protocol.specs.declared.answer.TagError.{TagError}
 use Rattle.protocol.specs.declared.answer.Answer.{Answer}
 use Rattle.machine.specs.Ask.{meant}
 use Rattle.stages.specs.Turns.{stage_ask, stage_step}
@@ -16,7 +17,7 @@ use Rattle.stages.specs.declared.stage.Turn.TheVariants.{Open, Over}
 use Rattle.session.specs.Steps.{counted}
 
 pub data Drives (lent : List ℕ) : ℕ → Turn → Replies → List Exchange → End → Type 0 where
-  ends : {k : ℕ} {m : Mark} {a : Answer} {ρ : Replies} → Drives lent k (Over m a) ρ [] (record { answer = a; mark = m; report = record { rows = k } })
+  ends : {k : ℕ} {m : Mark} {a : Result Answer TagError} {ρ : Replies} → Drives lent k (Over m a) ρ [] (record { answer = a; mark = m; report = record { rows = k } })
   goes : {k : ℕ} {m : Mark} {st : Stage} {ρ : Replies} {t : Transfer} {es : List Exchange} {e : End} → t ≡ meant lent (stage_ask (length lent) st)
       → Drives lent (k + counted (stage_ask (length lent) st) (ρ 0).ack) (stage_step lent m st (ρ 0).ack (ρ 0).got) (later ρ) es e
       → Drives lent k (Open m st) ρ (record { transfer = t; reply = ρ 0 } ∷ es) e

@@ -5,6 +5,7 @@ use Prim.Native.Nat.{ℕ, ◌+◌, ◌-◌, ◌≤◌}
 use native.Mathlib.Omega.{arith}
 use lib.Dec.{eqb}
 use borrow.Author.Tests.{eqb-true, ltb-false, not-true}
+use Rattle.std.specs.Prelude.{Some}
 use Rattle.scan.proofs.Cutting.{row_most}
 use Rattle.protocol.specs.Write.{past}
 use Rattle.machine.specs.Switch.{switch_ask}
@@ -26,7 +27,6 @@ use Rattle.stages.specs.declared.stage.Turn.{Turn}
 use Rattle.stages.specs.declared.stage.Turn.TheVariants.{Open, Over}
 use Rattle.session.specs.Sound.{stage_sound, sound, plain}
 use Rattle.session.specs.Steps.{entered, out_of}
-use Rattle.session.specs.declared.session.Now.TheVariants as N
 use Rattle.session.specs.declared.session.Session.{Session}
 use Rattle.slices.proofs.Truths.{both}
 use Rattle.kept.proofs.Pieces.{WriteIn, write-says}
@@ -141,7 +141,7 @@ able_ask n (G.FinishOff s) h = tt
 able_ask n (G.FinishStatus stuck) h = tt
 able_ask n (G.FinishWipe stuck s) h = h
 
-pub stage_fits : (q : Session) (st : Stage) → sound q ≡ true → q.now ≡ N.Open st → StageFits q.lent st
+pub stage_fits : (q : Session) (st : Stage) → sound q ≡ true → q.now ≡ Some st → StageFits q.lent st
 unfolding StageFits
 stage_fits q st e o =
     let s = open_sound_lem q st e o in
@@ -149,5 +149,5 @@ stage_fits q st e o =
 
 pub turn-fits : (rows n : ℕ) (t : Turn) → sound (entered rows n t) ≡ true → TurnFits n t
 unfolding TurnFits
-turn-fits rows n (Open m st) e = stage_fits (record { mark = m; rows = rows; lent = n; now = N.Open st }) st e refl
+turn-fits rows n (Open m st) e = stage_fits (record { mark = m; rows = rows; lent = n; now = Some st }) st e refl
 turn-fits rows n (Over m a) e = tt

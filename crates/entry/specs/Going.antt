@@ -1,25 +1,22 @@
 -- What is known where a call goes on. From no public document: what the laws here hand on from an entry point's checks to its step. The
 -- buffers' lengths are those of 33 in document 01, 'Numbers a caller gets'.
 --
---   Going s t r lent out m rows st == a state of s bytes, with buffers and data of these lengths, holds a session that calls leave, in the
---                                     stage st with the mark at m and these rows, and takes a reply
---   Inside d                       == the mark of a session that was read lies inside the part
-use Rattle.std.specs.Prelude.{◌≡◌, true, ℕ, ◌≤◌}
-use Rattle.protocol.specs.Mark.{Mark}
-use Rattle.stages.specs.declared.stage.Stage.{Stage}
+--   Going s t r lent out h == a state of s bytes, with buffers and data of these lengths, holds a session that calls leave, and takes the
+--                             reply that was heard, h: with its mark, in its stage
+--   Inside d               == the mark of a session that was read lies inside the part
+use Rattle.std.specs.Prelude.{◌≡◌, true, ℕ, ◌≤◌, Some, Option, None}
 use Rattle.session.specs.Sound.{sound}
 use Rattle.session.specs.Steps.{out_of}
-use Rattle.session.specs.declared.session.Now.TheVariants as N
-use Rattle.state.specs.declared.decode.Decoded.{Decoded}
-use Rattle.state.specs.declared.decode.Decoded.TheVariants.{State, Nothing}
+use Rattle.session.specs.declared.session.Session.{Session}
+use Rattle.telling.specs.declared.opening.Heard.{Heard}
 
-pub record Going (s t r lent out : ℕ) (m : Mark) (rows : ℕ) (st : Stage) : Type 0 where
+pub record Going (s t r lent out : ℕ) (h : Heard) : Type 0 where
   pub state : s ≡ 20
   pub transfer : 19 ≤ t
   pub reply : 64 ≤ r
-  pub whole : out ≡ out_of st
-  pub sane : sound (record { mark = m; rows = rows; lent = lent; now = N.Open st }) ≡ true
+  pub whole : out ≡ out_of h.stage
+  pub sane : sound (record { mark = h.mark; rows = h.rows; lent = lent; now = Some h.stage }) ≡ true
 
-abbrev pub Inside : Decoded → Type 0
-Inside (State q) = q.mark ≤ 8192
-Inside Nothing = Unit
+abbrev pub Inside : Option Session → Type 0
+Inside (Some q) = q.mark ≤ 8192
+Inside None = Unit

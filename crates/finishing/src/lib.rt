@@ -1,4 +1,5 @@
 // The end of `finish`: whether a phone wrote, how far the wipe then reaches, and where each of its steps leads.
+// A match for each call, as in `turns`.
 #![tactic(auto)]
 
 ghost use Rattle.std.specs.Prelude.{◌≡◌, ◌≤◌};
@@ -6,28 +7,25 @@ ghost use Rattle.stages.specs.Turns.{wrote_byte, first_answer, finish_turn, fini
 
 use chunks::scrub_new;
 use clearing::wipe_end;
-use protocol::answer::{Answer, TagError};
+use protocol::answer::{Answer, Progress, TagError};
 use stages::stage::{Stage, Turn};
-use wipe::scrub::Scrubbed;
+use wipe::scrub::Scrub;
 
 // The first refusal is the one returned.
-fn first_answer(stuck: bool, a: Answer) -> Answer
+fn first_answer(stuck: bool, a: Result<Answer, TagError>) -> Result<Answer, TagError>
     ensures { result ≡ first_answer stuck a }
 {
-    if stuck {
-        Answer::Not(TagError::RfStuck)
-    } else {
-        a
-    }
+    if stuck { Err(TagError::RfStuck) } else { a }
 }
 
-pub fn finish_turn(m: usize, stuck: bool, x: Scrubbed) -> Turn
+#[tactic(auto, unfolding(protocol::specs::Mark::none))]
+pub fn finish_turn(m: usize, stuck: bool, x: Progress<Scrub>) -> Turn
     ensures { result ≡ finish_turn m stuck x }
 {
     match x {
-        Scrubbed::More(s) => Turn::Open(m, Stage::FinishWipe(stuck, s)),
-        Scrubbed::Done => Turn::Over(0, first_answer(stuck, Answer::Done)),
-        Scrubbed::Not(e) => Turn::Over(m, first_answer(stuck, Answer::Not(e))),
+        Ok(Some(s)) => Turn::Open(m, Stage::FinishWipe(stuck, s)),
+        Ok(None) => Turn::Over(0, first_answer(stuck, Ok(Answer::Done))),
+        Err(e) => Turn::Over(m, first_answer(stuck, Err(e))),
     }
 }
 
@@ -46,6 +44,7 @@ pub fn wrote(ack: bool, v: u8) -> bool
 }
 
 // A phone's write may be anywhere: the wipe then reaches over the whole part.
+#[tactic(auto, unfolding(protocol::specs::Mark::whole))]
 pub fn status_turn(m: usize, stuck: bool, ack: bool, v: u8) -> Turn
     requires { m ≤ 8192 }
     ensures { result ≡ status_turn m stuck ack v }

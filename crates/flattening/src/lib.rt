@@ -1,4 +1,4 @@
-// A session as numbers.
+// A session as numbers: kinds are numbers here because C lends a state as twenty bytes.
 #![tactic(auto)]
 
 ghost use Rattle.std.specs.Prelude.{◌≡◌, ◌≤◌};
@@ -8,18 +8,12 @@ use machine::switch::Switch;
 use machine::wait::Wait;
 use numbers::flat::{Code, Flat, Place};
 use password::Open;
-use session::session::{Now, Session};
+use session::session::Session;
 use setup::setup::{Job, Setup};
 use stages::stage::Stage;
 use storing::Store;
 use wipe::scrub::{Chunk, Rows, Scrub};
 use writing::write::Write;
-
-pub fn bit(b: bool) -> u8
-    ensures { (result ≡ bit_of b) × (result ≤ 1) }
-{
-    if b { 1 } else { 0 }
-}
 
 pub fn code(phase: u8, inner: u8, which: u8, count: u8) -> Code
     ensures { result ≡ record { phase = phase; inner = inner; which = which; count = count } }
@@ -45,9 +39,9 @@ fn open_code(first: bool, o: Open) -> Code
     ensures { result ≡ open_code first o }
 {
     match o {
-        Open::Present => code(4, 3, bit(first), 0),
-        Open::Wait(w) => wait_code(4, bit(first), w),
-        Open::Look => code(4, 4, bit(first), 0),
+        Open::Present => code(4, 3, u8::from(first), 0),
+        Open::Wait(w) => wait_code(4, u8::from(first), w),
+        Open::Look => code(4, 4, u8::from(first), 0),
     }
 }
 
@@ -88,10 +82,10 @@ pub fn switch_code(s: Switch) -> Code
     ensures { result ≡ switch_code s }
 {
     match s {
-        Switch::Flip(on, n) => code(1, 0, bit(on), n),
+        Switch::Flip(on, n) => code(1, 0, u8::from(on), n),
         Switch::Clear(n) => code(2, 0, 0, n),
-        Switch::Look(on, n) => code(3, 0, bit(on), n),
-        Switch::Rest(on, n) => code(4, 0, bit(on), n),
+        Switch::Look(on, n) => code(3, 0, u8::from(on), n),
+        Switch::Rest(on, n) => code(4, 0, u8::from(on), n),
     }
 }
 
@@ -112,7 +106,7 @@ pub fn write_code(w: Write) -> Code
     match w {
         Write::Row(_) => code(1, 0, 0, 0),
         Write::Wait(_, w) => wait_code(2, 0, w),
-        Write::Check(c) => code(3, 0, bit(c.alike), 0),
+        Write::Check(c) => code(3, 0, u8::from(c.alike), 0),
     }
 }
 
@@ -131,7 +125,7 @@ pub fn place(left: usize, at: usize, end: usize, row: usize) -> Place
 fn bits(r: Rows) -> u8
     ensures { result ≡ bits_of r }
 {
-    bit(r.x) + 2 * bit(r.y) + 4 * bit(r.z)
+    u8::from(r.x) + 2 * u8::from(r.y) + 4 * u8::from(r.z)
 }
 
 fn row_place(p: Chunk, r: Rows) -> Place
@@ -204,8 +198,8 @@ fn stage_code(st: Stage) -> Code
         Stage::BeginSetup(s) => setup_code(s),
         Stage::BeginOff(s) => switch_code(s),
         Stage::FinishOff(s) => switch_code(s),
-        Stage::FinishStatus(stuck) => code(0, 0, bit(stuck), 0),
-        Stage::FinishWipe(stuck, s) => scrub_code(bit(stuck), s),
+        Stage::FinishStatus(stuck) => code(0, 0, u8::from(stuck), 0),
+        Stage::FinishWipe(stuck, s) => scrub_code(u8::from(stuck), s),
         _ => code(0, 0, 0, 0),
     }
 }
@@ -241,7 +235,7 @@ pub fn flatten(s: Session) -> Flat
 {
     let now = s.now;
     match now {
-        Now::Idle => flat(1, code(0, 0, 0, 0), place(0, 0, 0, 0), s),
-        Now::Open(st) => flat(stage_tag(st), stage_code(st), stage_place(st), s),
+        None => flat(1, code(0, 0, 0, 0), place(0, 0, 0, 0), s),
+        Some(st) => flat(stage_tag(st), stage_code(st), stage_place(st), s),
     }
 }

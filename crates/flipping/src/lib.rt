@@ -5,7 +5,8 @@ ghost use Rattle.std.specs.Prelude.{◌≡◌};
 ghost use Rattle.machine.specs.Switch.{switch_ask, flipped, wanted, looked, switch_step};
 
 use machine::ask::Ask;
-use machine::switch::{Switch, Switched};
+use machine::switch::{Stuck, Switch};
+use protocol::answer::Progress;
 
 // What follows the switch's own acknowledge.
 fn flipped(on: bool, n: u8) -> Switch
@@ -25,17 +26,13 @@ fn wanted(on: bool, v: u8) -> bool
     if on { v == 0 } else { v / 4 % 2 == 1 }
 }
 
-fn looked(on: bool, n: u8, ack: bool, v: u8) -> Switched
+fn looked(on: bool, n: u8, ack: bool, v: u8) -> Progress<Switch, Stuck>
     ensures { result ≡ looked on n ack v }
 {
-    if ack {
-        if wanted(on, v) {
-            Switched::Done
-        } else {
-            Switched::More(Switch::Rest(on, n))
-        }
+    if ack && wanted(on, v) {
+        Ok(None)
     } else {
-        Switched::More(Switch::Rest(on, n))
+        Ok(Some(Switch::Rest(on, n)))
     }
 }
 
@@ -58,30 +55,26 @@ pub fn ask(s: Switch) -> Ask
 }
 
 // Where the reply leads; `v` is the byte that was read.
-pub fn step(s: Switch, ack: bool, v: u8) -> Switched
+pub fn step(s: Switch, ack: bool, v: u8) -> Progress<Switch, Stuck>
     ensures { result ≡ switch_step s ack v }
 {
     match s {
-        Switch::Flip(on, n) => {
-            if ack {
-                Switched::More(flipped(on, n))
-            } else {
-                Switched::More(Switch::Rest(on, n))
-            }
-        }
-        Switch::Clear(n) => {
-            if ack {
-                Switched::More(Switch::Look(true, n))
-            } else {
-                Switched::More(Switch::Rest(true, n))
-            }
-        }
+        Switch::Flip(on, n) => Ok(Some(if ack {
+            flipped(on, n)
+        } else {
+            Switch::Rest(on, n)
+        })),
+        Switch::Clear(n) => Ok(Some(if ack {
+            Switch::Look(true, n)
+        } else {
+            Switch::Rest(true, n)
+        })),
         Switch::Look(on, n) => looked(on, n, ack, v),
         Switch::Rest(on, n) => {
             if n == 0 {
-                Switched::Stuck
+                Err(Stuck)
             } else {
-                Switched::More(Switch::Flip(on, n - 1))
+                Ok(Some(Switch::Flip(on, n - 1)))
             }
         }
     }

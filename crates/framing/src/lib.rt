@@ -18,7 +18,7 @@ pub fn short(transfer: usize, reply: usize) -> bool
     (transfer < 19) | (reply < 64)
 }
 
-// A place as two bytes, one byte after it.
+// A place as two bytes, one byte after it; each as the definition `place` says it.
 fn head(at: usize, value: u8) -> [u8; 19]
     ensures { result ≡ at / 256 % 256 ∷ at % 256 ∷ value ∷ replicate 16 0 }
 {

@@ -15,16 +15,18 @@ use native.Mathlib.Omega.{arith}
 use lib.ListN.{length, take, drop, length-append}
 use lib.Seq.{drop_at, take_at}
 use lib.Dec.{eqb}
+use Rattle.std.specs.Prelude.{Ok, Err}
 use Rattle.slices.specs.Pick.{pick}
-use Rattle.blocks.specs.declared.Message.{Message}
-use Rattle.blocks.specs.declared.Message.TheVariants.{At, NoContainer, NoMessage, Truncated}
-use Rattle.blocks.specs.Read.{message_from, read_of, number_of}
+use Rattle.blocks.specs.declared.Unread.TheVariants.{NoContainer, NoMessage, Truncated}
+use Rattle.tlv.specs.declared.Span.{Span}
+use Rattle.tlv.specs.Blocks.{span}
+use Rattle.blocks.specs.Read.{Read, found, message_from, read_of, number_of}
 use Rattle.grammar.specs.Blocks.{Bytes, Head, Size, Stops, message, no_more, terminator, cut, Reads, MessageAt}
 use Rattle.grammar.proofs.BlocksComplete.{passes_read, head_read}
 use Rattle.grammar.proofs.BlocksSound.{message_said, Headed, head_or_none}
 
 -- what the grammar writes is read so
-written : (s : List ℕ) (m : Message) → Reads s m → read_of s ≡ m
+written : (s : List ℕ) (m : Read) → Reads s m → read_of s ≡ m
 written s m r =
     let d = drop_at r.head (r.blocks ++ r.tail) (length r.head) refl in
     ap read_of r.whole
@@ -32,21 +34,26 @@ written s m r =
     ∙ passes_read (r.head ++ (r.blocks ++ r.tail)) r.blocks r.tail (length r.head) m r.passed d r.stops
 
 -- a refusal, by its number
-refusal : ℕ → Message
-refusal n = pick (eqb n 11) NoContainer (pick (eqb n 12) NoMessage Truncated)
+refusal : ℕ → Read
+refusal n = pick (eqb n 11) (Err NoContainer) (pick (eqb n 12) (Err NoMessage) (Err Truncated))
 
-told : (m : Message) {n : ℕ} → number_of m ≡ n → (n ≡ 0 → ⊥) → m ≡ refusal n
+told : (m : Read) {n : ℕ} → number_of m ≡ n → (n ≡ 0 → ⊥) → m ≡ refusal n
 unfolding refusal
-told (At place len) e z = absurd (z (sym e))
-told NoContainer e z = ap refusal e
-told NoMessage e z = ap refusal e
-told Truncated e z = ap refusal e
+told (Ok m) e z = absurd (z (sym e))
+told (Err NoContainer) e z = ap refusal e
+told (Err NoMessage) e z = ap refusal e
+told (Err Truncated) e z = ap refusal e
 
-never : (tail : List ℕ) (at : ℕ) (m : Message) → Stops tail at m → m ≡ NoContainer → ⊥
+never : (tail : List ℕ) (at : ℕ) (m : Read) → Stops tail at m → m ≡ Err NoContainer → ⊥
 never tail at m (message body rest h) e = let z : ◌≡◌ {A = ℕ} 0 1 = cc in omega arith
 never tail at m no_more e = let z : ◌≡◌ {A = ℕ} 0 1 = cc in omega arith
 never tail at m terminator e = let z : ◌≡◌ {A = ℕ} 0 1 = cc in omega arith
 never tail at m (cut a b c) e = let z : ◌≡◌ {A = ℕ} 0 1 = cc in omega arith
+
+same_found : {at len p n : ℕ} → found at len ≡ found p n → (at ≡ p) × (len ≡ n)
+same_found {at} {len} {p} {n} e =
+    let f : span at len ≡ span p n = cc in
+    (ap (λ (b : Span). b.at) f, ap (λ (b : Span). b.len) f)
 
 -- blocks that answer with a message begin with it
 record Begins (tail : List ℕ) (at place len : ℕ) : Type 0 where
@@ -58,9 +65,10 @@ record Begins (tail : List ℕ) (at place len : ℕ) : Type 0 where
   place_is : place ≡ at + (1 + length size)
   len_is : len ≡ length body
 
-begins : (tail : List ℕ) (at : ℕ) (m : Message) → Stops tail at m → (place len : ℕ) → m ≡ At place len → Begins tail at place len
+begins : (tail : List ℕ) (at : ℕ) (m : Read) → Stops tail at m → (place len : ℕ) → m ≡ found place len → Begins tail at place len
 begins tail at m (message {l} body rest h) place len e =
-    record { size = l; body = body; rest = rest; is-size = h; whole = refl; place_is = cc; len_is = cc }
+    let same = same_found e in
+    record { size = l; body = body; rest = rest; is-size = h; whole = refl; place_is = sym same.0; len_is = sym same.1 }
 begins tail at m no_more place len e = let z : ◌≡◌ {A = ℕ} 0 1 = cc in absurd (omega arith)
 begins tail at m terminator place len e = let z : ◌≡◌ {A = ℕ} 0 1 = cc in absurd (omega arith)
 begins tail at m (cut a b c) place len e = let z : ◌≡◌ {A = ℕ} 0 1 = cc in absurd (omega arith)
@@ -82,10 +90,10 @@ module _ (s : List ℕ) (bytes : Bytes s) where
         is-head = h.is-head;
         passed = r.passed;
         whole = h.whole ∙ ap (λ (l : List ℕ). h.head ++ l) (sym d ∙ r.whole);
-        stops = subst (λ (m : Message). Stops r.tail (length h.head + length r.blocks) m) e r.stops;
+        stops = subst (λ (m : Read). Stops r.tail (length h.head + length r.blocks) m) e r.stops;
       }
 
-  pub read_exactly : (m : Message) → (m ≡ NoContainer → ⊥) → (read_of s ≡ m) ↔ Reads s m
+  pub read_exactly : (m : Read) → (m ≡ Err NoContainer → ⊥) → (read_of s ≡ m) ↔ Reads s m
   read_exactly m n =
       ((λ e. subst (Reads s) e (⊎_elim after-head (λ z. absurd (n (sym e ∙ z))) (head_or_none s))), written s m)
 
@@ -98,22 +106,22 @@ module _ (s : List ℕ) (bytes : Bytes s) where
     (λ no. ⊎_elim (λ h. absurd (no h.head h.rest h.is-head h.whole)) (λ z. ap number_of z) (head_or_none s)),
   )
 
-  pub no_message_exactly : (number_of (read_of s) ≡ 12) ↔ Reads s NoMessage
+  pub no_message_exactly : (number_of (read_of s) ≡ 12) ↔ Reads s (Err NoMessage)
   unfolding refusal
   no_message_exactly =
-      let r = read_exactly NoMessage (λ e. let z : ◌≡◌ {A = ℕ} 0 1 = cc in omega arith) in
+      let r = read_exactly (Err NoMessage) (λ e. let z : ◌≡◌ {A = ℕ} 0 1 = cc in omega arith) in
       ((λ n. r.0 (told (read_of s) n (λ z. omega arith))), λ w. ap number_of (r.1 w))
 
-  pub truncated_exactly : (number_of (read_of s) ≡ 13) ↔ Reads s Truncated
+  pub truncated_exactly : (number_of (read_of s) ≡ 13) ↔ Reads s (Err Truncated)
   unfolding refusal
   truncated_exactly =
-      let r = read_exactly Truncated (λ e. let z : ◌≡◌ {A = ℕ} 0 1 = cc in omega arith) in
+      let r = read_exactly (Err Truncated) (λ e. let z : ◌≡◌ {A = ℕ} 0 1 = cc in omega arith) in
       ((λ n. r.0 (told (read_of s) n (λ z. omega arith))), λ w. ap number_of (r.1 w))
 
   module _ (place len : ℕ) where
-    at_place : Reads s (At place len) → MessageAt s place len
+    at_place : Reads s (found place len) → MessageAt s place len
     at_place r =
-        let b = begins r.tail (length r.head + length r.blocks) (At place len) r.stops place len refl in
+        let b = begins r.tail (length r.head + length r.blocks) (found place len) r.stops place len refl in
         let front = r.head ++ (r.blocks ++ (0x03 ∷ b.size)) in
         let w : s ≡ r.head ++ (r.blocks ++ (0x03 ∷ (b.size ++ (b.body ++ b.rest))))
         = r.whole ∙ ap (λ (l : List ℕ). r.head ++ (r.blocks ++ l)) b.whole in
@@ -137,7 +145,7 @@ module _ (s : List ℕ) (bytes : Bytes s) where
               ∙ take_at b.body b.rest len (sym b.len_is);
         }
 
-    from_place : MessageAt s place len → Reads s (At place len)
+    from_place : MessageAt s place len → Reads s (found place len)
     from_place a =
         record {
           head = a.head;
@@ -148,15 +156,15 @@ module _ (s : List ℕ) (bytes : Bytes s) where
           whole = a.whole;
           stops =
               subst (Stops (0x03 ∷ (a.size ++ (a.body ++ a.rest))) (length a.head + length a.blocks))
-              (sym (ap₂ At a.place_is a.len_is)) (message a.body a.rest a.is-size);
+              (sym (ap₂ found a.place_is a.len_is)) (message a.body a.rest a.is-size);
         }
 
-    pub message_exactly : (read_of s ≡ At place len) ↔ MessageAt s place len
+    pub message_exactly : (read_of s ≡ found place len) ↔ MessageAt s place len
     message_exactly =
-        let r = read_exactly (At place len) (λ e. let z : ◌≡◌ {A = ℕ} 0 1 = cc in omega arith) in
+        let r = read_exactly (found place len) (λ e. let z : ◌≡◌ {A = ℕ} 0 1 = cc in omega arith) in
         ((λ e. at_place (r.0 e)), λ a. r.1 (from_place a))
 
-    pub message-inside : read_of s ≡ At place len → place + len ≤ length s
+    pub message-inside : read_of s ≡ found place len → place + len ≤ length s
     message-inside e =
         let a = message_exactly.0 e in
         omega (

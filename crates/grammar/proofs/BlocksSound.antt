@@ -13,17 +13,16 @@ use borrow.Author.Tests.{eqb-true, eqb-false, ltb-true, ltb-false}
 use lib.ListN.{length, get_or, take, drop, length-append, length-drop, take-append-drop}
 use lib.Seq.{drop_at, drop-drop, get_or-drop, length-take-le}
 use lib.Dec.{eqb, ltb}
+use Rattle.std.specs.Prelude.{Option, Some, None, Err}
 use Rattle.slices.specs.Bytes.{be}
 use Rattle.slices.specs.Walk.{on_next}
 use Rattle.slices.proofs.Cases.{pick_cases}
 use Rattle.tlv.specs.declared.Length.{Length}
-use Rattle.tlv.specs.declared.Length.TheVariants.{Of, Missing}
 use Rattle.tlv.specs.declared.Block.{Block}
 use Rattle.tlv.specs.declared.Block.TheVariants as block
-use Rattle.blocks.specs.declared.Message.{Message}
-use Rattle.blocks.specs.declared.Message.TheVariants.{At, NoContainer, NoMessage, Truncated}
+use Rattle.blocks.specs.declared.Unread.TheVariants.{NoContainer, NoMessage, Truncated}
 use Rattle.tlv.specs.Blocks.{tlv_length, body_of, on_length, block_of}
-use Rattle.blocks.specs.Read.{on_block, message_from, container_len, read_of}
+use Rattle.blocks.specs.Read.{Read, found, on_block, message_from, container_len, in_container, read_of}
 use Rattle.grammar.specs.Blocks.{Bytes, Version1, Head, large, long, small, Size, one, three, Passed, null, other, Passes, none, first, Cut, no_length, escape, half, beyond, Stops, message, no_more, terminator, cut}
 use Rattle.blocks.proofs.Blocks.{message-step}
 
@@ -44,9 +43,9 @@ record Sized (s : List ℕ) (n size : ℕ) : Type 0 where
   whole : s ≡ length-bytes ++ rest
   takes : size ≡ length length-bytes
 
-abbrev Said : List ℕ → Length → Type 0
-Said s (Of n size) = Sized s n size
-Said s Missing = Cut s
+abbrev Said : List ℕ → Option Length → Type 0
+Said s (Some l) = Sized s l.len l.size
+Said s None = Cut s
 
 escaped : (a : ℕ) (s : List ℕ) → a ≡ 0xFF → Cut (0xFF ∷ s) → Cut (a ∷ s)
 escaped a s e c = subst (λ (n : ℕ). Cut (n ∷ s)) (sym e) c
@@ -92,15 +91,15 @@ record Over (r : List ℕ) (n : ℕ) : Type 0 where
   whole : r ≡ block ++ rest
   takes : n ≡ length block
 
-abbrev Shown : List ℕ → Block → Type 0
-Shown r (block.Over n) = Over r n
-Shown r (block.Body from len) = (at : ℕ) → Stops r at (At (at + from) len)
-Shown r block.Stop = (at : ℕ) → Stops r at NoMessage
-Shown r block.Cut = (at : ℕ) → Stops r at Truncated
+abbrev Shown : List ℕ → Option Block → Type 0
+Shown r (Some (block.Over n)) = Over r n
+Shown r (Some (block.Body b)) = (at : ℕ) → Stops r at (found (at + b.at) b.len)
+Shown r (Some block.Stop) = (at : ℕ) → Stops r at (Err NoMessage)
+Shown r None = (at : ℕ) → Stops r at (Err Truncated)
 
 -- a block with a length: its body is all there, or not
 module _ (t : ℕ) (s : List ℕ) (a : t ≡ 0x00 → ⊥) (b : t ≡ 0xFE → ⊥) where
-  beyond-shown : (n size : ℕ) → Sized s n size → length (t ∷ s) < 1 + size + n → (at : ℕ) → Stops (t ∷ s) at Truncated
+  beyond-shown : (n size : ℕ) → Sized s n size → length (t ∷ s) < 1 + size + n → (at : ℕ) → Stops (t ∷ s) at (Err Truncated)
   beyond-shown n size z h at =
       let w = z.whole in
       let k : length z.rest < n = omega (arith, z.takes, ap length w, length-append z.length-bytes z.rest) in
@@ -121,10 +120,10 @@ module _ (t : ℕ) (s : List ℕ) (a : t ≡ 0x00 → ⊥) (b : t ≡ 0xFE → �
     unfolding body
     whole_is = z.whole ∙ ap (λ (l : List ℕ). z.length-bytes ++ l) (sym (take-append-drop n z.rest))
 
-    message-shown : t ≡ 0x03 → (at : ℕ) → Stops (t ∷ s) at (At (at + (1 + size)) n)
+    message-shown : t ≡ 0x03 → (at : ℕ) → Stops (t ∷ s) at (found (at + (1 + size)) n)
     message-shown e at =
-        subst (λ (m : Message). Stops (t ∷ s) at m) (ap₂ (λ (i j : ℕ). At (at + (1 + i)) j) (sym z.takes) body-length)
-        (subst (λ (r : List ℕ). Stops r at (At (at + (1 + length z.length-bytes)) (length body)))
+        subst (λ (m : Read). Stops (t ∷ s) at m) (ap₂ (λ (i j : ℕ). found (at + (1 + i)) j) (sym z.takes) body-length)
+        (subst (λ (r : List ℕ). Stops r at (found (at + (1 + length z.length-bytes)) (length body)))
         (sym (ap₂ (λ (x : ℕ) (l : List ℕ). x ∷ l) e whole_is)) (message body (drop n z.rest) body-size))
 
     over-shown : (t ≡ 0x03 → ⊥) → Over (t ∷ s) (1 + size + n)
@@ -138,13 +137,16 @@ module _ (t : ℕ) (s : List ℕ) (a : t ≡ 0x00 → ⊥) (b : t ≡ 0xFE → �
           takes = omega (arith, z.takes, length-append z.length-bytes body);
         }
 
-  length-shown : (q : Length) → Said s q → Shown (t ∷ s) (on_length (t ∷ s) t q)
+  sized-shown : (n size : ℕ) → Sized s n size → Shown (t ∷ s) (body_of (t ∷ s) t (1 + size) n)
   unfolding body_of
-  length-shown (Of n size) z =
+  sized-shown n size z =
       pick_cases (Shown (t ∷ s)) (ltb (length (t ∷ s)) (1 + size + n)) (λ l. beyond-shown n size z (ltb-true _ _ l)) (λ l.
-      pick_cases (Shown (t ∷ s)) (eqb t 0x03) (λ e. message-shown n size z (ltb-false _ _ l) (eqb-true _ _ e))
+      pick_cases (λ (x : Block). Shown (t ∷ s) (Some x)) (eqb t 0x03) (λ e. message-shown n size z (ltb-false _ _ l) (eqb-true _ _ e))
       (λ e. over-shown n size z (ltb-false _ _ l) (eqb-false _ _ e)))
-  length-shown Missing c = λ at. cut a b c
+
+  length-shown : (q : Option Length) → Said s q → Shown (t ∷ s) (on_length (t ∷ s) t q)
+  length-shown (Some l) z = sized-shown l.len l.size z
+  length-shown None c = λ at. cut a b c
 
 block_said : (r : List ℕ) → Bytes r → Shown r (block_of r)
 unfolding block_of
@@ -152,14 +154,14 @@ block_said [] bytes = λ at. no_more
 block_said (t ∷ s) bytes =
     pick_cases (Shown (t ∷ s)) (eqb (length (t ∷ s)) 0) (λ z. let n : length (t ∷ s) ≡ 0 = eqb-true _ _ z in absurd (omega arith)) (λ _.
     pick_cases (Shown (t ∷ s)) (eqb t 0x00) (λ e. nothing (eqb-true _ _ e)) (λ a.
-    pick_cases (Shown (t ∷ s)) (eqb t 0xFE) (λ e at. subst (λ (n : ℕ). Stops (n ∷ s) at NoMessage) (sym (eqb-true _ _ e)) terminator) (λ b.
+    pick_cases (Shown (t ∷ s)) (eqb t 0xFE) (λ e at. subst (λ (n : ℕ). Stops (n ∷ s) at (Err NoMessage)) (sym (eqb-true _ _ e)) terminator) (λ b.
     length-shown t s (eqb-false _ _ a) (eqb-false _ _ b) (tlv_length s) (size_said s (λ k. bytes (suc k))))))
   where
     nothing : t ≡ 0x00 → Over (t ∷ s) 1
     nothing e = record { block = 0x00 ∷ []; rest = s; passed = null; whole = ap (λ (n : ℕ). n ∷ s) e; takes = refl }
 
 -- the blocks from a place on
-pub record Reach (image : List ℕ) (at : ℕ) (m : Message) : Type 0 where
+pub record Reach (image : List ℕ) (at : ℕ) (m : Read) : Type 0 where
   pub blocks : List ℕ
   pub tail : List ℕ
   pub passed : Passes blocks
@@ -167,7 +169,7 @@ pub record Reach (image : List ℕ) (at : ℕ) (m : Message) : Type 0 where
   pub stops : Stops tail (at + length blocks) m
 
 module _ (image : List ℕ) (bytes : Bytes image) where
-  at_once : (at : ℕ) (m : Message) → Stops (drop at image) at m → Reach image at m
+  at_once : (at : ℕ) (m : Read) → Stops (drop at image) at m → Reach image at m
   at_once at m h =
       let z : at ≡ at + 0 = omega arith in
       record {
@@ -178,7 +180,7 @@ module _ (image : List ℕ) (bytes : Bytes image) where
         stops = subst (λ (n : ℕ). Stops (drop at image) n m) z h;
       }
 
-  after : (at n : ℕ) (m : Message) (o : Over (drop at image) n) → Reach image (at + n) m → Reach image at m
+  after : (at n : ℕ) (m : Read) (o : Over (drop at image) n) → Reach image (at + n) m → Reach image at m
   after at n m o r =
       let d : drop (at + n) image ≡ o.rest
       = sym (drop-drop n at image) ∙ ap (drop n) o.whole ∙ drop_at o.block o.rest n (sym o.takes) in
@@ -196,13 +198,13 @@ module _ (image : List ℕ) (bytes : Bytes image) where
       }
 
   -- one block, where the blocks after it are known
-  turn : (at : ℕ) (b : Block) → Shown (drop at image) b
+  turn : (at : ℕ) (b : Option Block) → Shown (drop at image) b
       → ((n : ℕ) → Over (drop at image) n → Reach image (at + n) (message_from image (at + n)))
       → Reach image at (on_next (on_block at b) (message_from image))
-  turn at (block.Over n) o later = after at n (message_from image (at + n)) o (later n o)
-  turn at (block.Body from len) h later = at_once at (At (at + from) len) (h at)
-  turn at block.Stop h later = at_once at NoMessage (h at)
-  turn at block.Cut h later = at_once at Truncated (h at)
+  turn at (Some (block.Over n)) o later = after at n (message_from image (at + n)) o (later n o)
+  turn at (Some (block.Body b)) h later = at_once at (found (at + b.at) b.len) (h at)
+  turn at (Some block.Stop) h later = at_once at (Err NoMessage) (h at)
+  turn at None h later = at_once at (Err Truncated) (h at)
 
   shown : (at : ℕ) → Shown (drop at image) (block_of (drop at image))
   shown at = block_said (drop at image) (λ k. rw (get_or-drop at image k 0) (bytes (at + k)))
@@ -264,24 +266,28 @@ small-head (a ∷ b ∷ c ∷ d ∷ s) h e z v =
     record { head = 0xE1 ∷ b ∷ c ∷ d ∷ []; rest = s; is-head = small v z; whole = ap (λ (x : ℕ). x ∷ b ∷ c ∷ d ∷ s) e }
 
 module _ (s : List ℕ) where
-  abbrev Opens : ℕ → Type 0
-  Opens n = (n ≡ 0 → ⊥) → n ≤ length s → Version1 (get_or s 1 0) → Headed s
+  abbrev Opens : Option ℕ → Type 0
+  Opens (Some n) = n ≤ length s → Version1 (get_or s 1 0) → Headed s
+  Opens None = Unit {0}
 
   opens : Opens (container_len s)
   unfolding container_len
   opens =
-      pick_cases Opens (ltb (length s) 3) (λ _ z h v. absurd (z refl)) (λ _.
+      pick_cases Opens (ltb (length s) 3) (λ _. tt) (λ _.
       pick_cases Opens (eqb (get_or s 0 0) 0xE1)
-      (λ e. pick_cases Opens (eqb (get_or s 2 0) 0) (λ n z h v. long-head s h (eqb-true _ _ e) (eqb-true _ _ n) v)
-      (λ n z h v. small-head s h (eqb-true _ _ e) (eqb-false _ _ n) v))
-      (λ _. pick_cases Opens (eqb (get_or s 0 0) 0xE2) (λ e z h v. large-head s h (eqb-true _ _ e) v) (λ _ z h v. absurd (z refl))))
+      (λ e. pick_cases (λ (n : ℕ). Opens (Some n)) (eqb (get_or s 2 0) 0) (λ n h v. long-head s h (eqb-true _ _ e) (eqb-true _ _ n) v)
+      (λ n h v. small-head s h (eqb-true _ _ e) (eqb-false _ _ n) v))
+      (λ _. pick_cases Opens (eqb (get_or s 0 0) 0xE2) (λ e h v. large-head s h (eqb-true _ _ e) v) (λ _. tt)))
 
-  abbrev HeadOr : Message → Type 0
-  HeadOr m = Headed s ⊎ (m ≡ NoContainer)
+  abbrev HeadOr : Read → Type 0
+  HeadOr m = Headed s ⊎ (m ≡ Err NoContainer)
+
+  in_container_or_none : (c : Option ℕ) → Opens c → HeadOr (in_container s c)
+  in_container_or_none (Some n) o =
+      pick_cases HeadOr (ltb (length s) n) (λ _. inr refl) (λ h.
+      pick_cases HeadOr (eqb (get_or s 1 0 / 64) 1) (λ v. inl (o (ltb-false _ _ h) (eqb-true _ _ v))) (λ _. inr refl))
+  in_container_or_none None o = inr refl
 
   pub head_or_none : HeadOr (read_of s)
   unfolding read_of
-  head_or_none =
-      pick_cases HeadOr (eqb (container_len s) 0) (λ _. inr refl) (λ z.
-      pick_cases HeadOr (ltb (length s) (container_len s)) (λ _. inr refl) (λ h.
-      pick_cases HeadOr (eqb (get_or s 1 0 / 64) 1) (λ v. inl (opens (eqb-false _ _ z) (ltb-false _ _ h) (eqb-true _ _ v))) (λ _. inr refl)))
+  head_or_none = in_container_or_none (container_len s) opens

@@ -11,12 +11,13 @@ use native.Mathlib.Omega.{arith}
 use borrow.Author.Tests.{le-ltb, le-leb, lt-leb}
 use lib.ListN.{get_or-eq_default, length, take, drop, length-append, length-take, length-drop}
 use lib.Seq.{get_or-take, get_or-drop, drop_at, drop-drop, take-add, length-take-le}
+use Rattle.std.specs.Prelude.{None, Result, Ok, Err}
 use Rattle.slices.specs.Pick.{pick}
 use Rattle.slices.proofs.Cases.{lt_or_ge}
 use Rattle.layout.specs.Record.{Fields, record_bytes}
 use Rattle.records.specs.declared.Record.{Record}
-use Rattle.records.specs.declared.Parsed.{Parsed}
-use Rattle.records.specs.declared.Parsed.TheVariants as parsed
+use Rattle.records.specs.declared.Malformed.{Malformed}
+use Rattle.records.specs.declared.Malformed.TheVariants.{Truncated, Chunked}
 use Rattle.heads.specs.Heads.{flag}
 use Rattle.records.specs.Parse.{parse_of, number_of}
 use Rattle.grammar.specs.Records.{Bytes, Allowed, Begins, places_of}
@@ -24,7 +25,6 @@ use Rattle.grammar.proofs.RecordsComplete.{complete, bytes-length}
 use Rattle.records.proofs.Records.{record_there}
 use Rattle.grammar.proofs.RecordsSound.{sound}
 use Rattle.grammar.proofs.RecordsExactly.{chunked-read, truncated-read, chunked_exactly, truncated_exactly}
-use Rattle.walk.specs.declared.Entry.TheVariants as entry
 use Rattle.walk.specs.declared.Stepped.{Stepped}
 use Rattle.walk.specs.Step.{shift, left, stop, on_parsed, step_of}
 use Rattle.walk.specs.Walked.{Ending, ended, truncated, chunked, Walked, before, walked, on_step}
@@ -37,7 +37,7 @@ module _ (s : List ℕ) (bytes : Bytes s) (end : ℕ) (fits : end ≤ length s) 
   unfolding step_of
   inside at h = simp (le-ltb _ _ fits, lt-leb _ _ h)
 
-  past : (at : ℕ) → end ≤ at → step_of s at end ≡ stop entry.End end
+  past : (at : ℕ) → end ≤ at → step_of s at end ≡ stop (Ok None) end
   unfolding step_of
   past at h = simp (le-ltb _ _ fits, le-leb _ _ h)
 
@@ -72,7 +72,7 @@ module _ (s : List ℕ) (bytes : Bytes s) (end : ℕ) (fits : end ≤ length s) 
 
   -- a record that stands in front: the walk finds it, and goes on after it, or ends
   module _ (at : ℕ) (r : Fields) (t : List ℕ) (is : left s at end ≡ record_bytes r ++ t) (ok : Allowed r) where
-    parsed_is : parse_of (left s at end) ≡ parsed.Record (places_of r)
+    parsed_is : parse_of (left s at end) ≡ Ok (places_of r)
     parsed_is = ap parse_of is ∙ complete r t ok
 
     before-end : at < end
@@ -137,17 +137,17 @@ module _ (s : List ℕ) (bytes : Bytes s) (end : ℕ) (fits : end ≤ length s) 
           places = ap (λ (x : Walked). x.records) w;
         }
 
-    by_parsed : (q : Parsed) → parse_of (left s at end) ≡ q → Lists at (walked s at end) (left s at end)
-    by_parsed (parsed.Record p) e =
+    by_parsed : (q : Result Record Malformed) → parse_of (left s at end) ≡ q → Lists at (walked s at end) (left s at end)
+    by_parsed (Ok p) e =
         let a = sound (left s at end) (bytes_left at) e in
         after_record a.fields a.rest a.begins a.fields.last refl
-    by_parsed parsed.Truncated e =
+    by_parsed (Err Truncated) e =
         let t = (truncated_exactly (left s at end) (bytes_left at)).0 (ap number_of e) in
         let l = left-length s at end fits some in
         let n : 0 < length (left s at end) = omega arith in
         let m : Message [] truncated (left s at end) = cut_short n t.0 t.1 in
         refused_at truncated (walked_complete at m refl) m
-    by_parsed parsed.Chunked e =
+    by_parsed (Err Chunked) e =
         let l = left-length s at end fits some in
         let n : 0 < length (left s at end) = omega arith in
         let m : Message [] chunked (left s at end) = in_chunks n ((chunked_exactly (left s at end)).0 (ap number_of e)) in

@@ -13,12 +13,12 @@ use native.Mathlib.Omega.{arith}
 use borrow.Author.Tests.{le-ltb}
 use lib.ListN.{length, get_or, take, drop, length-append}
 use lib.Seq.{take_at, drop_at}
+use Rattle.std.specs.Prelude.{Ok}
 use Rattle.slices.specs.Pick.{pick}
 use Rattle.slices.specs.Bytes.{be}
 use Rattle.slices.proofs.Numbers.{be-length}
 use Rattle.layout.specs.Record.{Fields, header, record_head, record_bytes}
 use Rattle.records.specs.declared.Record.{Record}
-use Rattle.records.specs.declared.Parsed.TheVariants as parsed
 use Rattle.heads.specs.Heads.{flag, head_len, payload_len, id_len}
 use Rattle.records.specs.Parse.{places_in, whole_of, parse_of, end_of}
 use Rattle.pieces.specs.Parts.{part_of, kind_of, id_of, payload_of}
@@ -29,7 +29,7 @@ use Rattle.pieces.proofs.Parts.{part-inside}
 
 -- bytes that say a record which is all there
 all_there : (s : List ℕ) (h k i p : ℕ) → get_or s 0 0 ≡ h → flag 0x20 h ≡ false → head_len h ≡ k → id_len s ≡ i → payload_len s ≡ p
-    → k + get_or s 1 0 + i + p ≤ length s → parse_of s ≡ parsed.Record (places_in s h k i p)
+    → k + get_or s 1 0 + i + p ≤ length s → parse_of s ≡ Ok (places_in s h k i p)
 unfolding parse_of whole_of
 all_there s h k i p first chunk e f g fits =
     let l : k ≤ length s = omega arith in
@@ -102,7 +102,7 @@ module _ (r : Fields) (rest : List ℕ) where
     no_id : r.named ≡ false → length r.id ≡ 0
     no_id e = ap length (ok.unnamed e)
 
-    head_read : parse_of (head_of r ++ after) ≡ parsed.Record (places_of r)
+    head_read : parse_of (head_of r ++ after) ≡ Ok (places_of r)
     head_read =
         let h = header r.begin r.last r.short r.named r.format in
         let chunk = header-chunk r.begin r.last r.short r.named r.format ok.format-fits in
@@ -119,7 +119,7 @@ module _ (r : Fields) (rest : List ℕ) where
         (payload-read h (length r.kind) (length r.payload) (length r.id) after r.short r.named short ok.payload-fits) fits
         ∙ simp (format, last, head-length)
 
-    pub complete : parse_of (record_bytes r ++ rest) ≡ parsed.Record (places_of r)
+    pub complete : parse_of (record_bytes r ++ rest) ≡ Ok (places_of r)
     complete = ap parse_of split ∙ head_read
 
   -- a part that stands after `front`

@@ -15,12 +15,13 @@ use native.Mathlib.Omega.{arith}
 use borrow.Author.Tests.{eqb-true, eq-eqb}
 use lib.ListN.{length, get_or}
 use lib.Dec.{ltb, eqb}
+use Rattle.std.specs.Prelude.{Result, Ok, Err}
 use Rattle.slices.specs.Pick.{pick}
 use Rattle.slices.proofs.Cases.{pick_cases}
 use Rattle.layout.specs.Record.{Fields, record_bytes}
 use Rattle.records.specs.declared.Record.{Record}
-use Rattle.records.specs.declared.Parsed.{Parsed}
-use Rattle.records.specs.declared.Parsed.TheVariants as parsed
+use Rattle.records.specs.declared.Malformed.{Malformed}
+use Rattle.records.specs.declared.Malformed.TheVariants.{Truncated, Chunked}
 use Rattle.heads.specs.Heads.{flag, head_len, id_len, payload_len}
 use Rattle.records.specs.Parse.{whole_of, parse_of, number_of}
 use Rattle.pieces.specs.Parts.{kind_of, id_of, payload_of, one_byte, is_of}
@@ -28,13 +29,13 @@ use Rattle.grammar.specs.Records.{Bytes, Begins, RecordAt, places_of}
 use Rattle.grammar.proofs.RecordsComplete.{complete, kind_there, id_there, payload_there}
 use Rattle.grammar.proofs.RecordsSound.{sound}
 
-read_of : (s : List ℕ) (r : Fields) (rest : List ℕ) → Begins s r rest → parse_of s ≡ parsed.Record (places_of r)
+read_of : (s : List ℕ) (r : Fields) (rest : List ℕ) → Begins s r rest → parse_of s ≡ Ok (places_of r)
 read_of s r rest b = ap parse_of b.bytes ∙ complete r rest b.allowed
 
-pub record_exactly : (s : List ℕ) (p : Record) → Bytes s → (parse_of s ≡ parsed.Record p) ↔ RecordAt s p
-record_exactly s p bytes = (sound s bytes, λ a. read_of s a.fields a.rest a.begins ∙ ap parsed.Record (sym a.places))
+pub record_exactly : (s : List ℕ) (p : Record) → Bytes s → (parse_of s ≡ Ok p) ↔ RecordAt s p
+record_exactly s p bytes = (sound s bytes, λ a. read_of s a.fields a.rest a.begins ∙ ap Ok (sym a.places))
 
-abbrev Flagged : List ℕ → Parsed → Type 0
+abbrev Flagged : List ℕ → Result Record Malformed → Type 0
 Flagged s q = number_of q ≡ 14 → flag 0x20 (get_or s 0 0) ≡ true
 
 flagged : (s : List ℕ) → Flagged s (parse_of s)
@@ -60,29 +61,29 @@ truncated_exactly s bytes = (
     unflagged true e n = let c = (chunked_exactly s).1 e in absurd (omega arith)
     unflagged false e n = refl
 
-    refused : (q : Parsed) → parse_of s ≡ q → flag 0x20 (get_or s 0 0) ≡ false → ((r : Fields) (rest : List ℕ) → Begins s r rest → ⊥) → number_of q ≡ 13
-    refused (parsed.Record p) e f none = let a = sound s bytes e in absurd (none a.fields a.rest a.begins)
-    refused parsed.Truncated e f none = refl
-    refused parsed.Chunked e f none =
+    refused : (q : Result Record Malformed) → parse_of s ≡ q → flag 0x20 (get_or s 0 0) ≡ false → ((r : Fields) (rest : List ℕ) → Begins s r rest → ⊥) → number_of q ≡ 13
+    refused (Ok p) e f none = let a = sound s bytes e in absurd (none a.fields a.rest a.begins)
+    refused (Err Truncated) e f none = refl
+    refused (Err Chunked) e f none =
         let t : flag 0x20 (get_or s 0 0) ≡ true = (chunked_exactly s).0 (ap number_of e) in
         let z : ◌≡◌ {A = ℕ} 0 1 = cc in absurd (omega arith)
 
 -- a refusal, by its number
-refusal : ℕ → Parsed
-refusal n = pick (eqb n 14) parsed.Chunked parsed.Truncated
+refusal : ℕ → Result Record Malformed
+refusal n = pick (eqb n 14) (Err Chunked) (Err Truncated)
 
-told : (q : Parsed) {n : ℕ} → number_of q ≡ n → (n ≡ 0 → ⊥) → q ≡ refusal n
+told : (q : Result Record Malformed) {n : ℕ} → number_of q ≡ n → (n ≡ 0 → ⊥) → q ≡ refusal n
 unfolding refusal
-told (parsed.Record p) e z = absurd (z (sym e))
-told parsed.Truncated e z = ap refusal e
-told parsed.Chunked e z = ap refusal e
+told (Ok p) e z = absurd (z (sym e))
+told (Err Truncated) e z = ap refusal e
+told (Err Chunked) e z = ap refusal e
 
-pub chunked-read : (s : List ℕ) → flag 0x20 (get_or s 0 0) ≡ true → parse_of s ≡ parsed.Chunked
+pub chunked-read : (s : List ℕ) → flag 0x20 (get_or s 0 0) ≡ true → parse_of s ≡ Err Chunked
 unfolding refusal
 chunked-read s e = told (parse_of s) ((chunked_exactly s).1 e) (λ z. omega arith)
 
 pub truncated-read : (s : List ℕ) → Bytes s → flag 0x20 (get_or s 0 0) ≡ false → ((r : Fields) (rest : List ℕ) → Begins s r rest → ⊥)
-    → parse_of s ≡ parsed.Truncated
+    → parse_of s ≡ Err Truncated
 unfolding refusal
 truncated-read s bytes e none = told (parse_of s) ((truncated_exactly s bytes).1 (e, none)) (λ z. omega arith)
 

@@ -10,12 +10,12 @@ use borrow.Author.Tests.{ltb-false}
 use lib.ListN.{length, get_or, take, drop, length-drop, take-append-drop}
 use lib.Seq.{drop-cons, drop-drop, length-take-le}
 use lib.Dec.{ltb}
+use Rattle.std.specs.Prelude.{Ok}
 use Rattle.slices.specs.Pick.{pick}
 use Rattle.slices.specs.Bytes.{be}
 use Rattle.slices.proofs.Cases.{pick_cases, pick_else}
 use Rattle.layout.specs.Record.{Fields, record_head}
 use Rattle.records.specs.declared.Record.{Record}
-use Rattle.records.specs.declared.Parsed.TheVariants as parsed
 use Rattle.heads.specs.Heads.{flag, head_len, payload_len, id_len}
 use Rattle.records.specs.Parse.{places_in, whole_of, parse_of}
 use Rattle.grammar.specs.Records.{Bytes, Allowed, head_of, places_of, Begins, RecordAt}
@@ -157,7 +157,7 @@ module _ (s : List ℕ) (bytes : Bytes s) (chunk : flag 0x20 (get_or s 0 0) ≡ 
       let l = ap length (head-written s bytes chunk head) ∙ length-take-le (head_len (get_or s 0 0)) s head in
       simp (kind-length s (head_len (get_or s 0 0)) fits, id-length s (head_len (get_or s 0 0)) fits, payload-length s (head_len (get_or s 0 0)) fits, l)
 
-pub sound : (s : List ℕ) {p : Record} → Bytes s → parse_of s ≡ parsed.Record p → RecordAt s p
+pub sound : (s : List ℕ) {p : Record} → Bytes s → parse_of s ≡ Ok p → RecordAt s p
 unfolding parse_of whole_of
 sound s {p} bytes e =
     let a = pick_else (flag 0x20 (get_or s 0 0)) e (λ f. let z : ◌≡◌ {A = ℕ} 0 1 = cc in omega arith) in

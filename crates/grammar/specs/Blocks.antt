@@ -11,10 +11,10 @@
 --   Stops s at m       == the blocks s, which begin at the place `at`, answer m at once: the message; the end or FE; a length that fails
 --   Reads s m          == s is a container, blocks that are stepped over, and bytes that answer m
 --   MessageAt s p n    == s is a container, blocks that are stepped over, and a message block whose n bytes of body stand at the place p
-use Rattle.std.specs.Prelude.{◌≡◌, List, [], ◌∷◌, ◌++◌, ℕ, ◌+◌, ◌/◌, ◌<◌, length, get_or, take, drop}
+use Rattle.std.specs.Prelude.{◌≡◌, List, [], ◌∷◌, ◌++◌, ℕ, ◌+◌, ◌/◌, ◌<◌, length, get_or, take, drop, Err}
 use Rattle.slices.specs.Bytes.{be}
-use Rattle.blocks.specs.declared.Message.{Message}
-use Rattle.blocks.specs.declared.Message.TheVariants.{At, NoMessage, Truncated}
+use Rattle.blocks.specs.declared.Unread.TheVariants.{NoMessage, Truncated}
+use Rattle.blocks.specs.Read.{Read, found}
 
 abbrev pub Bytes : List ℕ → Type 0
 Bytes s = (k : ℕ) → get_or s k 0 < 256
@@ -45,13 +45,13 @@ pub data Cut : List ℕ → Type 0 where
   half : {x : ℕ} → Cut (0xFF ∷ x ∷ [])
   beyond : {n : ℕ} {l : List ℕ} (rest : List ℕ) → Size n l → length rest < n → Cut (l ++ rest)
 
-pub data Stops : List ℕ → ℕ → Message → Type 0 where
-  message : {l : List ℕ} (body rest : List ℕ) {at : ℕ} → Size (length body) l → Stops (0x03 ∷ (l ++ (body ++ rest))) at (At (at + (1 + length l)) (length body))
-  no_more : {at : ℕ} → Stops [] at NoMessage
-  terminator : {s : List ℕ} {at : ℕ} → Stops (0xFE ∷ s) at NoMessage
-  cut : {t : ℕ} {s : List ℕ} {at : ℕ} → (t ≡ 0x00 → ⊥) → (t ≡ 0xFE → ⊥) → Cut s → Stops (t ∷ s) at Truncated
+pub data Stops : List ℕ → ℕ → Read → Type 0 where
+  message : {l : List ℕ} (body rest : List ℕ) {at : ℕ} → Size (length body) l → Stops (0x03 ∷ (l ++ (body ++ rest))) at (found (at + (1 + length l)) (length body))
+  no_more : {at : ℕ} → Stops [] at (Err NoMessage)
+  terminator : {s : List ℕ} {at : ℕ} → Stops (0xFE ∷ s) at (Err NoMessage)
+  cut : {t : ℕ} {s : List ℕ} {at : ℕ} → (t ≡ 0x00 → ⊥) → (t ≡ 0xFE → ⊥) → Cut s → Stops (t ∷ s) at (Err Truncated)
 
-pub record Reads (s : List ℕ) (m : Message) : Type 0 where
+pub record Reads (s : List ℕ) (m : Read) : Type 0 where
   pub head : List ℕ
   pub blocks : List ℕ
   pub tail : List ℕ

@@ -18,18 +18,19 @@
 --   finish_leaves_nothing  == `finish`, whenever it comes, answers Ok with RF off, the mark 0, all bytes zero
 --   scrub_exact            == `scrub` programs exactly the non-zero rows below the rounded mark, and changes no byte at or above it
 --   once                   == only one answer meets a promise that is an equation
+use Rattle.std.specs.Prelude.{Ok}
 use mathlib.Core.Path.{◌≡◌}
 use mathlib.Core.Bool.{true, false}
 use mathlib.Core.List.{List, ◌++◌}
 use mathlib.Core.Logic.{◌⊎◌, ◌↔◌}
 use Prim.Native.Nat.{ℕ, ◌≤◌, ◌<◌}
 use lib.ListN.{length}
+use Rattle.std.specs.Prelude.{Some}
 use Rattle.utf8.specs.Utf8.{utf8}
 use Rattle.layout.specs.Lengths.{record_len}
 use Rattle.layout.specs.Record.{Fields, whole}
 use Rattle.layout.specs.Payload.{well_known, text_kind, text_payload, english}
 use Rattle.layout.specs.Image.{image, text_image}
-use Rattle.layout.specs.declared.refusal.Verdict.TheVariants.{Fits}
 use Rattle.judging.specs.Judge.{after}
 use Rattle.contents.specs.Contents.{text_of}
 use Rattle.roundtrip.specs.Trip as trip
@@ -46,7 +47,6 @@ use Rattle.stages.specs.declared.stage.Turn.{Turn}
 use Rattle.session.specs.Steps.{idle}
 use Rattle.session.specs.declared.session.Session.{Session}
 use Rattle.state.specs.Bytes.{encode, decode_of}
-use Rattle.state.specs.declared.decode.Decoded.TheVariants.{State}
 use Rattle.kept.specs.Bytes.{Bytes}
 use Rattle.kept.specs.Kept.{Kept}
 use Rattle.kept.proofs.Theorems as kept
@@ -78,7 +78,7 @@ pub records_differ : (img : List ℕ) (r q : Fields) → trip.ReadsBack img r �
 records_differ = trip.one_record
 
 pub begun-is-whole : (area format : ℕ) (kind head rest : List ℕ) {out o₁ o₂ o₃ : List ℕ} {place end close : ℕ}
-    → begun.Begun area format kind head rest out o₁ o₂ o₃ place end close → o₃ ≡ after Fits (image area (whole format kind (head ++ rest))) out
+    → begun.Begun area format kind head rest out o₁ o₂ o₃ place end close → o₃ ≡ after (Ok tt) (image area (whole format kind (head ++ rest))) out
 begun-is-whole = begun.begun-is-whole
 
 pub cards : card.Cards
@@ -93,11 +93,11 @@ pub drives_once : (lent : List ℕ) (k : ℕ) (t : Turn) (ρ : Replies) (es : Li
     → Drives lent k t ρ es e → Drives lent k t ρ fs f → (es ≡ fs) × (e ≡ f)
 drives_once = drives.drives_once
 
-pub hosts_agree : (c : Call) (m : Mark) (s t r : List ℕ) (es : List Act) (e : Left) → decode_of s ≡ State (idle m) → 19 ≤ length t → 64 ≤ length r
+pub hosts_agree : (c : Call) (m : Mark) (s t r : List ℕ) (es : List Act) (e : Left) → decode_of s ≡ Some (idle m) → 19 ≤ length t → 64 ≤ length r
     → Hosts (lent_to c) (out_for c) (start_left c s t r) es e → Agrees c m es e
 hosts_agree = hosts.hosts_agree
 
-pub kept_exactly : (l : List ℕ) (s : Session) → Bytes l → (decode_of l ≡ State s) ↔ (Kept s × (encode s ≡ l))
+pub kept_exactly : (l : List ℕ) (s : Session) → Bytes l → (decode_of l ≡ Some s) ↔ (Kept s × (encode s ≡ l))
 kept_exactly = kept.kept_exactly
 
 pub nothing_left : {p : Part} → PowerUp p → (w : Moments) → Clean (run begin mark.whole p w)

@@ -6,6 +6,7 @@ use Prim.Native.Nat.{ℕ, ◌+◌, ◌≤◌}
 use lib.Dec.{eqb}
 use lib.ListN.{length}
 use borrow.Author.Tests.{le-ltb, eq-eqb}
+use Rattle.std.specs.Prelude.{Option, Some, Result, Ok, Err}
 use Rattle.slices.specs.Pick.{pick}
 use Rattle.protocol.specs.Mark.{Mark}
 use Rattle.protocol.specs.Call.{Call}
@@ -14,32 +15,28 @@ use Rattle.stages.specs.Able.{got_by}
 use Rattle.stages.specs.declared.stage.Stage.{Stage}
 use Rattle.session.specs.Sound.{sound}
 use Rattle.session.specs.Steps.{idle, counted, out_of}
-use Rattle.session.specs.declared.session.Now.TheVariants as N
 use Rattle.session.specs.declared.session.Session.{Session}
 use Rattle.state.specs.Bytes.{encode, decode_of}
-use Rattle.state.specs.declared.decode.Decoded.{Decoded}
-use Rattle.state.specs.declared.decode.Decoded.TheVariants.{State}
 use Rattle.kept.proofs.Theorems.{decode_encode}
 use Rattle.telling.specs.Left.{settled, short, misfit, opened_by, mark_of, started_left, start_left, heard_by, replied_left, reply_left}
-use Rattle.telling.specs.declared.opening.Opened.{Opened}
-use Rattle.telling.specs.declared.opening.Opened.TheVariants as O
+use Rattle.telling.specs.declared.opening.Misuse.{Misuse}
+use Rattle.telling.specs.declared.opening.Misuse.TheVariants as M
 use Rattle.telling.specs.declared.opening.Heard.{Heard}
-use Rattle.telling.specs.declared.opening.Heard.TheVariants as H
 
 long-enough : (t r : ℕ) → 19 ≤ t → 64 ≤ r → short t r ≡ false
 long-enough t r h g = rw (le-ltb t 19 h, le-ltb r 64 g)
 
 -- a call on the bytes of a session that is idle
-pub start_goes : (c : Call) (m : Mark) (s t r : List ℕ) → decode_of s ≡ State (idle m) → 19 ≤ length t → 64 ≤ length r
+pub start_goes : (c : Call) (m : Mark) (s t r : List ℕ) → decode_of s ≡ Some (idle m) → 19 ≤ length t → 64 ≤ length r
     → start_left c s t r ≡ settled (lent_to c) 0 (start_of c m) t r
 start_goes c m s t r e ht hr =
-    let o : opened_by (State (idle m)) (length t) (length r) ≡ O.At m =
-    ap (λ (b : Bool). pick b (O.Not 33) (O.At m)) (long-enough (length t) (length r) ht hr) in
-    ap (λ (x : Opened). started_left x (lent_to c) (start_of c (mark_of x)) s t r) (ap (λ (d : Decoded). opened_by d (length t) (length r)) e ∙ o)
+    let o : opened_by (Some (idle m)) (length t) (length r) ≡ Ok m =
+    ap (λ (b : Bool). pick b (Err M.WrongLength) (Ok m)) (long-enough (length t) (length r) ht hr) in
+    ap (λ (x : Result Mark Misuse). started_left x (lent_to c) (start_of c (mark_of x)) s t r) (ap (λ (d : Option Session). opened_by d (length t) (length r)) e ∙ o)
 
 module _ (m : Mark) (k : ℕ) (st : Stage) (lent t r out : List ℕ) (ack : ℕ) where
   abbrev session : Session
-  session = record { mark = m; rows = k; lent = length lent; now = N.Open st }
+  session = record { mark = m; rows = k; lent = length lent; now = Some st }
 
   -- a reply on the bytes of a session with an open call
   pub reply-goes : sound session ≡ true → 19 ≤ length t → 64 ≤ length r → length out ≡ out_of st
@@ -48,7 +45,7 @@ module _ (m : Mark) (k : ℕ) (st : Stage) (lent t r out : List ℕ) (ack : ℕ)
   reply-goes e ht hr ho =
       let f : misfit session st (length t) (length r) (length lent) (length out) ≡ false =
       rw (le-ltb (length t) 19 ht, le-ltb (length r) 64 hr, eq-eqb (length lent) (length lent) refl, eq-eqb (length out) (out_of st) ho) in
-      let h : heard_by (State session) (length t) (length r) (length lent) (length out) ≡ H.Goes m k st =
-      ap (λ (b : Bool). pick b (H.Not 33) (H.Goes m k st)) f in
-      ap (λ (x : Heard). replied_left x (encode session) t r lent out (not (eqb ack 0)))
-      (ap (λ (d : Decoded). heard_by d (length t) (length r) (length lent) (length out)) (decode_encode session e) ∙ h)
+      let h : heard_by (Some session) (length t) (length r) (length lent) (length out) ≡ Ok (record { mark = m; rows = k; stage = st }) =
+      ap (λ (b : Bool). pick b (Err M.WrongLength) (Ok (record { mark = m; rows = k; stage = st }))) f in
+      ap (λ (x : Result Heard Misuse). replied_left x (encode session) t r lent out (not (eqb ack 0)))
+      (ap (λ (d : Option Session). heard_by d (length t) (length r) (length lent) (length out)) (decode_encode session e) ∙ h)

@@ -6,6 +6,7 @@ use Prim.Native.Nat.{ℕ, ◌+◌, ◌-◌, ◌≤◌}
 use native.Mathlib.Omega.{arith}
 use lib.Dec.{eqb}
 use lib.ListN.{length, take, drop, replicate, length-append, length-replicate}
+use Rattle.std.specs.Prelude.{Some}
 use Rattle.slices.specs.Pick.{pick}
 use Rattle.protocol.specs.Transfer.{Transfer, Reply, write_read, place, sent}
 use Rattle.protocol.specs.Tag.{user, user_memory}
@@ -21,9 +22,7 @@ use Rattle.stages.specs.declared.stage.Turn.{Turn}
 use Rattle.stages.specs.declared.stage.Turn.TheVariants.{Open, Over}
 use Rattle.session.specs.Sound.{sound}
 use Rattle.session.specs.Steps.{idle, entered, counted}
-use Rattle.session.specs.declared.session.Now.TheVariants as N
 use Rattle.state.specs.Bytes.{encode, decode_of}
-use Rattle.state.specs.declared.decode.Decoded.TheVariants.{State}
 use Rattle.telling.specs.Step.{answer_step, transfer_step, padded}
 use Rattle.telling.specs.Left.{Left, into_out, waits_on, framed, settled, start_left, reply_left}
 use Rattle.telling.specs.Fit.{StageFits, TurnFits}
@@ -118,7 +117,7 @@ along lent o k (Open m st) t r l es e xs end el s h ht hr (goes {t = x} {es = ys
     let en : reply_left l.state l.transfer q lent out ack ≡ settled lent n u (framed lent st t) q =
     ap (λ (x : Left). reply_left x.state x.transfer q lent out ack) el
     ∙ reply-goes m k st lent (framed lent st t) q out ack s (framed-long lent st t) hq (eo ∙ sym h) in
-    let sn = step-sound (record { mark = m; rows = k; lent = length lent; now = N.Open st }) st lent b (got_by st q out) s refl refl in
+    let sn = step-sound (record { mark = m; rows = k; lent = length lent; now = Some st }) st lent b (got_by st q out) s refl refl in
     let hn = subst (λ (j : ℕ). Out j u) h (step_out lent m st b (got_by st q out)) in
     let g : pick (eqb (kind_of l.step) 3) out q ≡ got_by st q out =
     ap (λ (x : Left). pick (eqb (kind_of x.step) 3) out q) el ∙ got-is lent st q out in
@@ -135,10 +134,10 @@ along lent o k (Open m st) t r l es e xs end el s h ht hr (goes {t = x} {es = ys
     }
 
 -- Any host, any replies: what the bus sees is the beginning of the definition's run, it is never longer, and with the answer it is all of it.
-pub hosts_agree : (c : Call) (m : Mark) (s t r : List ℕ) (es : List Act) (e : Left) → decode_of s ≡ State (idle m) → 19 ≤ length t → 64 ≤ length r
+pub hosts_agree : (c : Call) (m : Mark) (s t r : List ℕ) (es : List Act) (e : Left) → decode_of s ≡ Some (idle m) → 19 ≤ length t → 64 ≤ length r
     → Hosts (lent_to c) (out_for c) (start_left c s t r) es e → Agrees c m es e
 hosts_agree c m s t r es e d ht hr h =
-    let hm : m ≤ 8192 = decoded_inside s (State (idle m)) (sym d) in
+    let hm : m ≤ 8192 = decoded_inside s (Some (idle m)) (sym d) in
     let i = along (lent_to c) (out_for c) 0 (start_of c m) t r _ es e _ _ (start_goes c m s t r d ht hr) (start_sound c m hm) (start_out c m) ht hr
     (session_drives c m (replies_of es) hm) h in
     record {

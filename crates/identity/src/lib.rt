@@ -4,14 +4,12 @@
 ghost use Rattle.std.specs.Prelude.{◌≡◌, ◌≤◌, length, take};
 ghost use Rattle.protocol.specs.Setup.{is_the_part};
 
-use slices::wide;
-
 // Whether twelve bytes from MEM_SIZE on are those of an ST25DV of 8 KB.
 pub fn is_the_part(id: &[u8]) -> bool
     requires { 12 ≤ length id.now }
     ensures { result ≡ is_the_part (take 12 id.now) }
 {
-    let low = wide(id[0]);
-    let high = wide(id[1]);
+    let low = usize::from(id[0]);
+    let high = usize::from(id[1]);
     (id[11] == 0xE0) & ((low + 256 * high + 1) * 4 == 8192)
 }

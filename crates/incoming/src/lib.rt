@@ -7,8 +7,6 @@ ghost use Rattle.protocol.specs.Transfer.{place_of};
 ghost use Rattle.protocol.specs.Tag.{user_memory, password};
 
 use equals::same;
-use slices::wide;
-
 // The byte at `i`, or 0 past the end.
 pub fn byte_at(s: &[u8], i: usize) -> u8
     ensures { result ≡ get_or s.now i 0 }
@@ -20,16 +18,14 @@ pub fn byte_at(s: &[u8], i: usize) -> u8
 pub fn place_of(s: &[u8]) -> usize
     ensures { (result ≡ place_of s.now) × (result < 65536) }
 {
-    let high = wide(byte_at(s, 0));
-    let low = wide(byte_at(s, 1));
-    high * 256 + low
+    usize::from(u16::from_be_bytes([byte_at(s, 0), byte_at(s, 1)]))
 }
 
 // How many bytes follow the place.
 pub fn data_len(s: &[u8]) -> usize
     ensures { result ≡ length s.now - 2 }
 {
-    if s.len() < 2 { 0 } else { s.len() - 2 }
+    s.len().saturating_sub(2)
 }
 
 // Whether the all-zero password follows the place.

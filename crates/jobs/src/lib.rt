@@ -4,43 +4,42 @@
 ghost use Rattle.std.specs.Prelude.{◌≡◌};
 ghost use Rattle.setup.specs.Setup.{setup_opened, next_job, setup_stored};
 
-use password::Opened;
-use setup::setup::{Job, Setup, SetupStep};
-use storing::{Store, Stored};
+use password::Open;
+use protocol::answer::Progress;
+use setup::setup::{Job, Setup};
+use storing::Store;
 
-pub fn opened(first: bool, o: Opened) -> SetupStep
+pub fn opened(first: bool, o: Progress<Open>) -> Progress<Setup>
     ensures { result ≡ setup_opened first o }
 {
-    match o {
-        Opened::More(n) => SetupStep::More(Setup::Open(first, n)),
-        Opened::Done => {
+    match o? {
+        Some(n) => Ok(Some(Setup::Open(first, n))),
+        None => {
             if first {
-                SetupStep::More(Setup::Store(Job::Config, Store::Send))
+                Ok(Some(Setup::Store(Job::Config, Store::Send)))
             } else {
-                SetupStep::More(Setup::Store(Job::Events, Store::Send))
+                Ok(Some(Setup::Store(Job::Events, Store::Send)))
             }
         }
-        Opened::Not(e) => SetupStep::Not(e),
     }
 }
 
 // What follows a byte that was stored.
-fn next_job(j: Job) -> SetupStep
+fn next_job(j: Job) -> Progress<Setup>
     ensures { result ≡ next_job j }
 {
     match j {
-        Job::Config => SetupStep::More(Setup::Store(Job::Sleep, Store::Send)),
-        Job::Sleep => SetupStep::More(Setup::Events),
-        Job::Events => SetupStep::Done,
+        Job::Config => Ok(Some(Setup::Store(Job::Sleep, Store::Send))),
+        Job::Sleep => Ok(Some(Setup::Events)),
+        Job::Events => Ok(None),
     }
 }
 
-pub fn stored(j: Job, s: Stored) -> SetupStep
+pub fn stored(j: Job, s: Progress<Store>) -> Progress<Setup>
     ensures { result ≡ setup_stored j s }
 {
-    match s {
-        Stored::More(n) => SetupStep::More(Setup::Store(j, n)),
-        Stored::Done => next_job(j),
-        Stored::Not(e) => SetupStep::Not(e),
+    match s? {
+        Some(n) => Ok(Some(Setup::Store(j, n))),
+        None => next_job(j),
     }
 }

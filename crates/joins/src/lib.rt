@@ -1,5 +1,6 @@
 // Puts the parts of an image together in a lent buffer, each byte once: what stands before the payload, and the whole image.
-// Whoever calls has judged that they fit; every byte after the place that is returned keeps what it was.
+// Whoever calls has judged that they fit, and `opens::open` has cut the format to three bits; every byte after the place that is returned keeps
+// what it was.
 #![tactic(auto)]
 
 ghost use Rattle.std.specs.Prelude.{◌++◌, ◌+◌, ◌≤◌, ◌<◌, ◌^◌, length};
@@ -13,6 +14,7 @@ use parts::{put_container, put_message_head, put_record_head, record_len};
 use slices::{copy_to, put};
 
 // Everything before the payload.
+#[tactic(auto, using(crate::proofs::Pieces::sizes))]
 pub fn put_front(out: &mut [u8], area: usize, format: u8, kind: &[u8], payload: usize) -> usize
     requires { (format < 8) × (length kind.now ≤ 255) × (length (front area format kind.now payload) + payload < 2 ^ 64) × (length (front area format kind.now payload) ≤ length out.old) }
     ensures { Wrote out.old 0 (front area format kind.now payload) out.new result }
@@ -25,6 +27,7 @@ pub fn put_front(out: &mut [u8], area: usize, format: u8, kind: &[u8], payload: 
 }
 
 // A whole image: the front, the payload in its two pieces (what its type puts first, and the rest), the terminator.
+#[tactic(auto, using(crate::proofs::Pieces::sizes))]
 pub fn put_image(
     out: &mut [u8],
     area: usize,

@@ -4,6 +4,7 @@ use mathlib.Core.Bool.{true}
 use Prim.Native.Nat.{ℕ, ◌≤◌}
 use native.Mathlib.Omega.{arith}
 use lib.Dec.{eqb}
+use Rattle.std.specs.Prelude.{Some}
 use Rattle.protocol.specs.Mark.{Mark}
 use Rattle.wipe.specs.Scrub.{Near}
 use Rattle.wipe.specs.declared.scrub.Scrub.{Scrub}
@@ -16,7 +17,6 @@ use Rattle.stages.specs.declared.stage.Stage.{Stage}
 use Rattle.stages.specs.declared.stage.Stage.TheVariants as G
 use Rattle.session.specs.Sound.{scrub_sound, stage_sound, sound}
 use Rattle.session.specs.Steps.{out_of}
-use Rattle.session.specs.declared.session.Now.TheVariants as N
 use Rattle.session.specs.declared.session.Session.{Session}
 use Rattle.slices.proofs.Truths.{both}
 use Rattle.kept.proofs.Chunks.{ScrubIn, stop-inside, scrub-says}
@@ -69,7 +69,7 @@ stage_able m rows n (G.FinishOff s) l e = tt
 stage_able m rows n (G.FinishStatus stuck) l e = tt
 stage_able m rows n (G.FinishWipe stuck s) l e = scrub_near m rows s (scrub-says m rows s (both (eqb n 0) (scrub_sound m rows s) e).1)
 
-pub able : (s : Session) (st : Stage) (o : ℕ) → sound s ≡ true → s.now ≡ N.Open st → o ≡ out_of st → Able s.lent o st × (s.mark ≤ 8192)
+pub able : (s : Session) (st : Stage) (o : ℕ) → sound s ≡ true → s.now ≡ Some st → o ≡ out_of st → Able s.lent o st × (s.mark ≤ 8192)
 able s st o e g q =
     let m = mark-inside s e in
     (subst (λ (k : ℕ). Able s.lent k st) (sym q) (stage_able s.mark s.rows s.lent st m (open_sound_lem s st e g)), m)

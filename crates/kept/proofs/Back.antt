@@ -3,6 +3,7 @@ use mathlib.Core.Path.{◌≡◌, refl, ap, ap₂, ◌∙◌}
 use mathlib.Core.Bool.{Bool, true, false}
 use Prim.Native.Nat.{ℕ, ◌+◌, ◌*◌, ◌/◌, ◌%◌}
 use lib.Dec.{eqb}
+use Rattle.std.specs.Prelude.{Option, Some, None}
 use Rattle.slices.specs.Pick.{pick}
 use Rattle.machine.specs.declared.wait.Wait.{Wait}
 use Rattle.machine.specs.declared.wait.Wait.TheVariants as W
@@ -24,8 +25,6 @@ use Rattle.writing.specs.declared.write.Write.{Write}
 use Rattle.writing.specs.declared.write.Write.TheVariants as K
 use Rattle.stages.specs.declared.stage.Stage.{Stage}
 use Rattle.stages.specs.declared.stage.Stage.TheVariants as G
-use Rattle.session.specs.declared.session.Now.{Now}
-use Rattle.session.specs.declared.session.Now.TheVariants as N
 use Rattle.session.specs.declared.session.Session.{Session}
 use Rattle.numbers.specs.Flat.{bit_of, wait_code, job_code, open_code, store_code, setup_code, switch_code, scrub_code, write_code, row_place, scrub_place, write_place, stage_tag, stage_code, stage_place, now_flat, flatten}
 use Rattle.numbers.specs.From.{wait_from, setup_from, switch_from, rows_from, scrub_from, write_from, now_from, session_from}
@@ -107,29 +106,29 @@ write_back (K.Check c) =
     let e = bit_back c.alike in
     λ i. K.Check (record { left = c.left; start = c.start; done = c.done; alike = e i })
 
-stage_back : (st : Stage) → now_from (stage_tag st) (stage_code st) (stage_place st) ≡ N.Open st
+stage_back : (st : Stage) → now_from (stage_tag st) (stage_code st) (stage_place st) ≡ Some st
 stage_back G.Identify = refl
-stage_back (G.Prepare s) = ap (λ (x : Setup). N.Open (G.Prepare x)) (setup_back s)
-stage_back (G.WaitReady w) = ap (λ (x : Wait). N.Open (G.WaitReady x)) (wait_back 0 0 w)
+stage_back (G.Prepare s) = ap (λ (x : Setup). Some (G.Prepare x)) (setup_back s)
+stage_back (G.WaitReady w) = ap (λ (x : Wait). Some (G.WaitReady x)) (wait_back 0 0 w)
 stage_back (G.ReadUser at n) = refl
-stage_back (G.Write w) = ap (λ (x : Write). N.Open (G.Write x)) (write_back w)
-stage_back (G.Switching s) = ap (λ (x : Switch). N.Open (G.Switching x)) (switch_back s)
+stage_back (G.Write w) = ap (λ (x : Write). Some (G.Write x)) (write_back w)
+stage_back (G.Switching s) = ap (λ (x : Switch). Some (G.Switching x)) (switch_back s)
 stage_back G.RfWrote = refl
-stage_back (G.WholeOff s) = ap (λ (x : Switch). N.Open (G.WholeOff x)) (switch_back s)
+stage_back (G.WholeOff s) = ap (λ (x : Switch). Some (G.WholeOff x)) (switch_back s)
 stage_back G.WholeStatus = refl
 stage_back G.WholeRead = refl
-stage_back (G.Wipe s) = ap (λ (x : Scrub). N.Open (G.Wipe x)) (scrub_back 0 s)
-stage_back (G.BeginSetup s) = ap (λ (x : Setup). N.Open (G.BeginSetup x)) (setup_back s)
-stage_back (G.BeginOff s) = ap (λ (x : Switch). N.Open (G.BeginOff x)) (switch_back s)
+stage_back (G.Wipe s) = ap (λ (x : Scrub). Some (G.Wipe x)) (scrub_back 0 s)
+stage_back (G.BeginSetup s) = ap (λ (x : Setup). Some (G.BeginSetup x)) (setup_back s)
+stage_back (G.BeginOff s) = ap (λ (x : Switch). Some (G.BeginOff x)) (switch_back s)
 stage_back G.LiveStatus = refl
-stage_back (G.FinishOff s) = ap (λ (x : Switch). N.Open (G.FinishOff x)) (switch_back s)
-stage_back (G.FinishStatus stuck) = ap (λ (b : Bool). N.Open (G.FinishStatus b)) (bit_back stuck)
+stage_back (G.FinishOff s) = ap (λ (x : Switch). Some (G.FinishOff x)) (switch_back s)
+stage_back (G.FinishStatus stuck) = ap (λ (b : Bool). Some (G.FinishStatus b)) (bit_back stuck)
 stage_back (G.FinishWipe stuck s) =
-    ap₂ (λ (b : Bool) (x : Scrub). N.Open (G.FinishWipe b x)) (ap (λ (n : ℕ). eqb n 1) (scrub_which (bit_of stuck) s) ∙ bit_back stuck) (scrub_back (bit_of stuck) s)
+    ap₂ (λ (b : Bool) (x : Scrub). Some (G.FinishWipe b x)) (ap (λ (n : ℕ). eqb n 1) (scrub_which (bit_of stuck) s) ∙ bit_back stuck) (scrub_back (bit_of stuck) s)
 
-now_back : (m r l : ℕ) (n : Now) → session_from (now_flat m r l n) ≡ record { mark = m; rows = r; lent = l; now = n }
-now_back m r l N.Idle = refl
-now_back m r l (N.Open st) = ap {B = Session} (λ (n : Now). record { mark = m; rows = r; lent = l; now = n }) (stage_back st)
+now_back : (m r l : ℕ) (n : Option Stage) → session_from (now_flat m r l n) ≡ record { mark = m; rows = r; lent = l; now = n }
+now_back m r l None = refl
+now_back m r l (Some st) = ap {B = Session} (λ (n : Option Stage). record { mark = m; rows = r; lent = l; now = n }) (stage_back st)
 
 pub flat_back : (s : Session) → session_from (flatten s) ≡ s
 flat_back s = now_back s.mark s.rows s.lent s.now

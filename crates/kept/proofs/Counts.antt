@@ -7,6 +7,7 @@ use native.Mathlib.Omega.{arith}
 use lib.ListN.{length, take, drop, length-take, length-drop}
 use lib.Dec.{eqb}
 use borrow.Author.Tests.{lt-ltb}
+use Rattle.std.specs.Prelude.{Some}
 use Rattle.slices.specs.Pick.{pick}
 use Rattle.slices.proofs.Truths.{both, both_so}
 use Rattle.scan.proofs.Cutting.{row-some, row_most}
@@ -39,7 +40,6 @@ use Rattle.stages.specs.declared.stage.Stage.{Stage}
 use Rattle.stages.specs.declared.stage.Stage.TheVariants as G
 use Rattle.session.specs.Sound.{scrub_sound, stage_sound, sound}
 use Rattle.session.specs.Steps.{counted}
-use Rattle.session.specs.declared.session.Now.TheVariants as N
 use Rattle.session.specs.declared.session.Session.{Session}
 use Rattle.kept.proofs.Chunks.{ScrubIn, stop-inside, scrub-says}
 use Rattle.kept.proofs.Pieces.{WriteIn, write-says}
@@ -126,7 +126,7 @@ module _ (lent : List ℕ) (r : Reply) where
   stage_counts m rows (G.FinishStatus stuck) l e = refl
   stage_counts m rows (G.FinishWipe stuck s) l e = scrub_counts m rows s (scrub-says m rows s (both (eqb (length lent) 0) (scrub_sound m rows s) e).1)
 
-pub counts_rows : (s : Session) (st : Stage) (lent : List ℕ) (r : Reply) → sound s ≡ true → s.now ≡ N.Open st → length lent ≡ s.lent
+pub counts_rows : (s : Session) (st : Stage) (lent : List ℕ) (r : Reply) → sound s ≡ true → s.now ≡ Some st → length lent ≡ s.lent
     → rows_of (record { transfer = meant lent (stage_ask s.lent st); reply = r }) ≡ counted (stage_ask s.lent st) r.ack
 counts_rows s st lent r e o l =
     subst (λ (n : ℕ). rows_of (record { transfer = meant lent (stage_ask n st); reply = r }) ≡ counted (stage_ask n st) r.ack) l

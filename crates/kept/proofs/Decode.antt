@@ -8,12 +8,12 @@ use lib.ListN.{length, get_or, drop, drop_of_length-le}
 use lib.Seq.{drop-cons}
 use lib.Dec.{eqb}
 use borrow.Author.Tests.{eqb-true, eq-eqb}
+use Rattle.std.specs.Prelude.{Option, Some, None}
 use Rattle.slices.specs.Pick.{pick}
 use Rattle.slices.proofs.Truths.{both, both_so}
 use Rattle.slices.proofs.Numbers.{byte-rest}
 use Rattle.session.specs.Sound.{sound}
-use Rattle.session.specs.declared.session.Now.{Now}
-use Rattle.session.specs.declared.session.Now.TheVariants as N
+use Rattle.stages.specs.declared.stage.Stage.{Stage}
 use Rattle.session.specs.declared.session.Session.{Session}
 use Rattle.numbers.specs.Flat.{now_flat, flatten}
 use Rattle.numbers.specs.From.{session_from}
@@ -21,8 +21,6 @@ use Rattle.state.specs.Bytes.{bytes_of, two_at, flat_of, encode, same_code, same
 use Rattle.numbers.specs.declared.flat.Code.{Code}
 use Rattle.numbers.specs.declared.flat.Place.{Place}
 use Rattle.numbers.specs.declared.flat.Flat.{Flat}
-use Rattle.state.specs.declared.decode.Decoded.{Decoded}
-use Rattle.state.specs.declared.decode.Decoded.TheVariants.{State, Nothing}
 use Rattle.kept.specs.Bytes.{Bytes}
 use Rattle.kept.proofs.Back.{flat_back}
 use Rattle.kept.proofs.Small.{Small, flat_small}
@@ -60,20 +58,20 @@ same_flat_lem : (f : Flat) → same_flat f f ≡ true
 same_flat_lem f = both_so _ _ (both_so _ _ (eq-eqb f.stage f.stage refl) (same_code_lem f.code)) (same_place_lem f.place)
 
 -- a choice that is known
-taken : (b : Bool) (d : Decoded) → b ≡ true → pick b d Nothing ≡ d
+taken : (b : Bool) (d : Option Session) → b ≡ true → pick b d None ≡ d
 taken true d e = refl
 taken false d e = absurd (let z : ◌≡◌ {A = ℕ} 0 1 = cc in omega arith)
 
-pub flat_decoded : (s : Session) → sound s ≡ true → decode_flat (flatten s) ≡ State s
+pub flat_decoded : (s : Session) → sound s ≡ true → decode_flat (flatten s) ≡ Some s
 flat_decoded s e =
-    ap (λ (t : Session). pick (same_flat (flatten t) (flatten s) && sound t) (State t) Nothing) (flat_back s)
-    ∙ taken (same_flat (flatten s) (flatten s) && sound s) (State s) (both_so _ _ (same_flat_lem (flatten s)) e)
+    ap (λ (t : Session). pick (same_flat (flatten t) (flatten s) && sound t) (Some t) None) (flat_back s)
+    ∙ taken (same_flat (flatten s) (flatten s) && sound s) (Some s) (both_so _ _ (same_flat_lem (flatten s)) e)
 
-pub decode_encode : (s : Session) → sound s ≡ true → decode_of (encode s) ≡ State s
+pub decode_encode : (s : Session) → sound s ≡ true → decode_of (encode s) ≡ Some s
 decode_encode s e = ap decode_flat (bytes_back (flatten s) (flat_small s e)) ∙ flat_decoded s e
 
 -- a choice that came out as a state
-some-state : (b : Bool) (d : Decoded) (s : Session) → pick b d Nothing ≡ State s → (b ≡ true) × (d ≡ State s)
+some-state : (b : Bool) (d : Option Session) (s : Session) → pick b d None ≡ Some s → (b ≡ true) × (d ≡ Some s)
 some-state true d s e = (refl, e)
 some-state false d s e = absurd (let z : ◌≡◌ {A = ℕ} 0 1 = cc in omega arith)
 
@@ -102,9 +100,9 @@ place_is a b e =
     λ i. record { bits = x i; left = l i; at = p i; end = n i; row = r i }
 
 -- the mark, the rows and the data's length stand in the numbers as they are
-pub now_counts : (m r l : ℕ) (n : Now) → ((now_flat m r l n).mark ≡ m) × ((now_flat m r l n).rows ≡ r) × ((now_flat m r l n).lent ≡ l)
-now_counts m r l N.Idle = (refl, refl, refl)
-now_counts m r l (N.Open st) = (refl, refl, refl)
+pub now_counts : (m r l : ℕ) (n : Option Stage) → ((now_flat m r l n).mark ≡ m) × ((now_flat m r l n).rows ≡ r) × ((now_flat m r l n).lent ≡ l)
+now_counts m r l None = (refl, refl, refl)
+now_counts m r l (Some st) = (refl, refl, refl)
 
 flat_is : (f : Flat) → same_flat (flatten (session_from f)) f ≡ true → flatten (session_from f) ≡ f
 flat_is f e =
@@ -142,10 +140,10 @@ module _ (l : List ℕ) (n : length l ≡ 20) (b : Bytes l) where
       (pair 6 _ (omega arith) (pair 8 _ (omega arith) (pair 10 _ (omega arith) (pair 12 _ (omega arith)
       (pair 14 _ (omega arith) (pair 16 _ (omega arith) (pair 18 _ (omega arith) (sym end)))))))))))))
 
-pub decode_only : (l : List ℕ) (s : Session) → Bytes l → decode_of l ≡ State s → (sound s ≡ true) × (encode s ≡ l)
+pub decode_only : (l : List ℕ) (s : Session) → Bytes l → decode_of l ≡ Some s → (sound s ≡ true) × (encode s ≡ l)
 decode_only l s b e =
     let a = some-state (eqb (length l) 20) (decode_flat (flat_of l)) s e in
-    let c = some-state (same_flat (flatten (session_from (flat_of l))) (flat_of l) && sound (session_from (flat_of l))) (State (session_from (flat_of l))) s a.1 in
+    let c = some-state (same_flat (flatten (session_from (flat_of l))) (flat_of l) && sound (session_from (flat_of l))) (Some (session_from (flat_of l))) s a.1 in
     let d = both (same_flat (flatten (session_from (flat_of l))) (flat_of l)) (sound (session_from (flat_of l))) c.0 in
     let w = c.1 in
     let q : session_from (flat_of l) ≡ s = cc in (

@@ -7,13 +7,13 @@ use native.Mathlib.Omega.{arith}
 use lib.ListN.{length, replicate, length-replicate}
 use lib.Dec.{eqb, leb}
 use borrow.Author.Tests.{eqb-true, not-true}
+use Rattle.std.specs.Prelude.{Option, Some, None, Err}
 use Rattle.slices.specs.Pick.{pick}
 use Rattle.slices.proofs.Truths.{both}
 use Rattle.protocol.specs.Mark.{Mark, wipe_end}
 use Rattle.protocol.specs.Write.{past}
 use Rattle.protocol.specs.Call.{Call}
 use Rattle.protocol.specs.Call as call
-use Rattle.protocol.specs.declared.answer.Answer.TheVariants as P
 use Rattle.protocol.specs.declared.answer.TagError.TheVariants.{NotTaken}
 use Rattle.machine.specs.Wait.{wait_new}
 use Rattle.machine.specs.Switch.{switch_new}
@@ -32,8 +32,6 @@ use Rattle.stages.specs.declared.stage.Stage.TheVariants as G
 use Rattle.stages.specs.declared.stage.Turn.TheVariants as D
 use Rattle.session.specs.Sound.{wait_sound, setup_sound, switch_sound, off_sound, scrub_sound, plain, stage_sound, now_sound, sound}
 use Rattle.session.specs.Steps.{counted}
-use Rattle.session.specs.declared.session.Now.{Now}
-use Rattle.session.specs.declared.session.Now.TheVariants as N
 use Rattle.session.specs.declared.session.Session.{Session}
 use Rattle.kept.specs.Bytes.{Bytes}
 use Rattle.kept.specs.Kept.{asked, Kept}
@@ -69,7 +67,7 @@ module _ (m : Mark) (h : m ≤ 8192) where
       (starts call.prepare (G.Prepare I.Identify) refl refl) s e
 
   reads : (a k : ℕ) → past a k ≡ false → Here (G.ReadUser a k)
-  reads a k e = starts (call.read_user a k) (G.ReadUser a k) refl (ap (λ (b : Bool). pick b (D.Over m (P.Not NotTaken)) (D.Open m (G.ReadUser a k))) e)
+  reads a k e = starts (call.read_user a k) (G.ReadUser a k) refl (ap (λ (b : Bool). pick b (D.Over m (Err NotTaken)) (D.Open m (G.ReadUser a k))) e)
 
   switches : (s : Switch) → switch_sound s ≡ true → Here (G.Switching s)
   switches s e =
@@ -162,12 +160,12 @@ module _ (m : Mark) (h : m ≤ 8192) where
   stage_left rows n (G.FinishStatus stuck) e = plainly rows n (G.FinishStatus stuck) e (finish_status stuck)
   stage_left rows n (G.FinishWipe stuck s) e = wiping rows n (G.FinishWipe stuck s) (scrub_sound m rows s) e (finish-wipes stuck rows s)
 
-  now_left : (rows n : ℕ) (now : Now) → now_sound m rows n now ≡ true → Kept (record { mark = m; rows = rows; lent = n; now = now })
-  now_left rows n N.Idle e =
+  now_left : (rows n : ℕ) (now : Option Stage) → now_sound m rows n now ≡ true → Kept (record { mark = m; rows = rows; lent = n; now = now })
+  now_left rows n None e =
       let a = both (eqb rows 0) (eqb n 0) e in
-      subst (λ (k : ℕ). Kept (record { mark = m; rows = k; lent = n; now = N.Idle })) (sym (eqb-true rows 0 a.0))
-      (subst (λ (k : ℕ). Kept (record { mark = m; rows = 0; lent = k; now = N.Idle })) (sym (eqb-true n 0 a.1)) (left-idle m h))
-  now_left rows n (N.Open st) e = stage_left rows n st e
+      subst (λ (k : ℕ). Kept (record { mark = m; rows = k; lent = n; now = None })) (sym (eqb-true rows 0 a.0))
+      (subst (λ (k : ℕ). Kept (record { mark = m; rows = 0; lent = k; now = None })) (sym (eqb-true n 0 a.1)) (left-idle m h))
+  now_left rows n (Some st) e = stage_left rows n st e
 
 pub sound-left : (s : Session) → sound s ≡ true → Kept s
 sound-left s e =

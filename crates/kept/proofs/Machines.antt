@@ -7,9 +7,11 @@ use native.Mathlib.Omega.{arith}
 use lib.ListN.{take}
 use lib.Dec.{eqb, ltb}
 use borrow.Author.Tests.{ltb-true, lt-ltb}
+use Rattle.std.specs.Prelude.{Result, Ok, Err, Option, Some, None}
 use Rattle.slices.proofs.Cases.{pick_cases}
 use Rattle.slices.proofs.Truths.{both, both_so}
 use Rattle.protocol.specs.Tag.{open_bit}
+use Rattle.protocol.specs.Answer.{Progress}
 use Rattle.protocol.specs.Setup.{is_the_part, is_set_up, reports}
 use Rattle.machine.specs.Ask.{first}
 use Rattle.machine.specs.Wait.{wait_step, wait_ask, poll_after}
@@ -19,54 +21,41 @@ use Rattle.storing.specs.Store.{store_step, store_waited}
 use Rattle.setup.specs.Setup.{setup_step, setup_ask, job_value, setup_opened, setup_stored}
 use Rattle.machine.specs.declared.wait.Wait.{Wait}
 use Rattle.machine.specs.declared.wait.Wait.TheVariants.{Poll, Pause}
-use Rattle.machine.specs.declared.wait.Waited.{Waited}
-use Rattle.machine.specs.declared.wait.Waited.TheVariants as W
 use Rattle.machine.specs.declared.switch.Switch.{Switch}
 use Rattle.machine.specs.declared.switch.Switch.TheVariants.{Flip, Clear, Look, Rest}
-use Rattle.machine.specs.declared.switch.Switched.{Switched}
-use Rattle.machine.specs.declared.switch.Switched.TheVariants as S
+use Rattle.machine.specs.Switch.{Switched}
 use Rattle.password.specs.declared.Open.{Open}
 use Rattle.password.specs.declared.Open.TheVariants as O
-use Rattle.password.specs.declared.Opened.{Opened}
-use Rattle.password.specs.declared.Opened.TheVariants as Od
 use Rattle.storing.specs.declared.Store.{Store}
 use Rattle.storing.specs.declared.Store.TheVariants as T
-use Rattle.storing.specs.declared.Stored.{Stored}
-use Rattle.storing.specs.declared.Stored.TheVariants as Sd
 use Rattle.setup.specs.declared.setup.Job.{Job}
 use Rattle.setup.specs.declared.setup.Job.TheVariants as J
 use Rattle.setup.specs.declared.setup.Setup.{Setup}
 use Rattle.setup.specs.declared.setup.Setup.TheVariants as I
-use Rattle.setup.specs.declared.setup.SetupStep.{SetupStep}
-use Rattle.setup.specs.declared.setup.SetupStep.TheVariants as U
 use Rattle.session.specs.Sound.{wait_sound, open_sound, store_sound, setup_sound, switch_sound, off_sound}
 use Rattle.session.specs.Steps.{counted}
 
--- a machine that goes on is sound, one that has ended is not asked
-abbrev pub WaitedIn : Waited → Type 0
-WaitedIn (W.More w) = wait_sound w ≡ true
-WaitedIn W.Ready = Unit
-WaitedIn W.Busy = Unit
+-- where a machine goes on, P holds of its state; one that has ended is not asked
+abbrev pub GoesOn : {S E : Type 0} → (S → Type 0) → Result (Option S) E → Type 0
+GoesOn P (Ok (Some s)) = P s
+GoesOn P (Ok None) = Unit
+GoesOn P (Err e) = Unit
+
+-- a machine that goes on is sound
+abbrev pub WaitedIn : Progress Wait → Type 0
+WaitedIn x = GoesOn (λ (w : Wait). wait_sound w ≡ true) x
 
 abbrev pub SwitchedIn : (Switch → Bool) → Switched → Type 0
-SwitchedIn f (S.More s) = f s ≡ true
-SwitchedIn f S.Done = Unit
-SwitchedIn f S.Stuck = Unit
+SwitchedIn f x = GoesOn (λ (s : Switch). f s ≡ true) x
 
-abbrev OpenedIn : Opened → Type 0
-OpenedIn (Od.More o) = open_sound o ≡ true
-OpenedIn Od.Done = Unit
-OpenedIn (Od.Not e) = Unit
+abbrev OpenedIn : Progress Open → Type 0
+OpenedIn x = GoesOn (λ (o : Open). open_sound o ≡ true) x
 
-abbrev StoredIn : Stored → Type 0
-StoredIn (Sd.More s) = store_sound s ≡ true
-StoredIn Sd.Done = Unit
-StoredIn (Sd.Not e) = Unit
+abbrev StoredIn : Progress Store → Type 0
+StoredIn x = GoesOn (λ (s : Store). store_sound s ≡ true) x
 
-abbrev pub SetupIn : SetupStep → Type 0
-SetupIn (U.More s) = setup_sound s ≡ true
-SetupIn U.Done = Unit
-SetupIn (U.Not e) = Unit
+abbrev pub SetupIn : Progress Setup → Type 0
+SetupIn x = GoesOn (λ (s : Setup). setup_sound s ≡ true) x
 
 down : (n k : ℕ) → ltb (suc n) k ≡ true → ltb n k ≡ true
 down n k e = lt-ltb n k (omega (arith, ltb-true (suc n) k e))
@@ -119,10 +108,10 @@ switch_counts (Clear n) ack = refl
 switch_counts (Look on n) ack = refl
 switch_counts (Rest on n) ack = refl
 
-open_waited_lem : (x : Waited) → WaitedIn x → OpenedIn (open_waited x)
-open_waited_lem (W.More w) h = h
-open_waited_lem W.Ready h = refl
-open_waited_lem W.Busy h = tt
+open_waited_lem : (x : Progress Wait) → WaitedIn x → OpenedIn (open_waited x)
+open_waited_lem (Ok (Some w)) h = h
+open_waited_lem (Ok None) h = refl
+open_waited_lem (Err e) h = tt
 
 open_kept : (o : Open) (ack : Bool) (v : ℕ) → open_sound o ≡ true → OpenedIn (open_step o ack v)
 open_kept O.Present true v e = refl
@@ -131,10 +120,10 @@ open_kept (O.Wait w) ack v e = open_waited_lem (wait_step w ack) (wait_kept w ac
 open_kept O.Look true v e = pick_cases OpenedIn (open_bit v) (λ _. tt) (λ _. tt)
 open_kept O.Look false v e = tt
 
-store_waited_lem : (x : Waited) → WaitedIn x → StoredIn (store_waited x)
-store_waited_lem (W.More w) h = h
-store_waited_lem W.Ready h = refl
-store_waited_lem W.Busy h = tt
+store_waited_lem : (x : Progress Wait) → WaitedIn x → StoredIn (store_waited x)
+store_waited_lem (Ok (Some w)) h = h
+store_waited_lem (Ok None) h = refl
+store_waited_lem (Err e) h = tt
 
 store_kept : (value : ℕ) (s : Store) (ack : Bool) (v : ℕ) → store_sound s ≡ true → StoredIn (store_step value s ack v)
 store_kept value T.Send true v e = refl
@@ -144,18 +133,18 @@ store_kept value (T.Wait w) ack v e = store_waited_lem (wait_step w ack) (wait_k
 store_kept value T.Look true v e = pick_cases StoredIn (eqb v value) (λ _. tt) (λ _. tt)
 store_kept value T.Look false v e = tt
 
-setup_opened_lem : (f : Bool) (x : Opened) → OpenedIn x → SetupIn (setup_opened f x)
-setup_opened_lem f (Od.More o) h = h
-setup_opened_lem true Od.Done h = refl
-setup_opened_lem false Od.Done h = refl
-setup_opened_lem f (Od.Not e) h = tt
+setup_opened_lem : (f : Bool) (x : Progress Open) → OpenedIn x → SetupIn (setup_opened f x)
+setup_opened_lem f (Ok (Some o)) h = h
+setup_opened_lem true (Ok None) h = refl
+setup_opened_lem false (Ok None) h = refl
+setup_opened_lem f (Err e) h = tt
 
-setup_stored_lem : (j : Job) (x : Stored) → StoredIn x → SetupIn (setup_stored j x)
-setup_stored_lem j (Sd.More s) h = h
-setup_stored_lem J.Config Sd.Done h = refl
-setup_stored_lem J.Sleep Sd.Done h = refl
-setup_stored_lem J.Events Sd.Done h = tt
-setup_stored_lem j (Sd.Not e) h = tt
+setup_stored_lem : (j : Job) (x : Progress Store) → StoredIn x → SetupIn (setup_stored j x)
+setup_stored_lem j (Ok (Some s)) h = h
+setup_stored_lem J.Config (Ok None) h = refl
+setup_stored_lem J.Sleep (Ok None) h = refl
+setup_stored_lem J.Events (Ok None) h = tt
+setup_stored_lem j (Err e) h = tt
 
 pub setup_kept : (s : Setup) (ack : Bool) (got : List ℕ) → setup_sound s ≡ true → SetupIn (setup_step s ack got)
 setup_kept I.Identify true got e = pick_cases SetupIn (is_the_part (take 12 got)) (λ _. refl) (λ _. tt)

@@ -7,6 +7,7 @@ use mathlib.Core.List.{List, []}
 use Prim.Native.Nat.{ℕ, zero, suc, ◌+◌, ◌≤◌}
 use native.Mathlib.Omega.{arith}
 use lib.ListN.{length}
+use Rattle.std.specs.Prelude.{Some}
 use Rattle.protocol.specs.Mark.{Mark}
 use Rattle.protocol.specs.Call.{Call}
 use Rattle.machine.specs.declared.ask.Ask.{Ask}
@@ -15,7 +16,6 @@ use Rattle.stages.specs.declared.stage.Stage.{Stage}
 use Rattle.stages.specs.declared.stage.Turn.{Turn}
 use Rattle.stages.specs.declared.stage.Turn.TheVariants.{Open}
 use Rattle.session.specs.Steps.{idle, entered, counted}
-use Rattle.session.specs.declared.session.Now.TheVariants as N
 use Rattle.session.specs.declared.session.Session.{Session}
 use Rattle.kept.specs.Bytes.{Bytes}
 use Rattle.kept.specs.Kept.{Answers, Kept, new, started, replied}
@@ -23,7 +23,7 @@ use Rattle.kept.proofs.Replies.{bytes-none}
 use Rattle.kept.proofs.Marks.{given-same}
 
 abbrev pub at : Mark → ℕ → ℕ → Stage → Session
-at m rows n st = record { mark = m; rows = rows; lent = n; now = N.Open st }
+at m rows n st = record { mark = m; rows = rows; lent = n; now = Some st }
 
 pub left-idle : (m : Mark) → m ≤ 8192 → Kept (idle m)
 left-idle m h = subst (λ (k : Mark). Kept (idle k)) (given-same m h) (new m)

@@ -10,6 +10,7 @@ use Prim.Native.Nat.{ℕ, zero, suc, ◌+◌, ◌-◌, ◌*◌, ◌/◌, ◌≤�
 use native.Mathlib.Omega.{arith}
 use lib.ListN.{take, replicate}
 use lib.Dec.{eqb}
+use Rattle.std.specs.Prelude.{Ok, Err, Some}
 use Rattle.slices.specs.Pick.{pick}
 use Rattle.slices.proofs.Truths.{false_of, never}
 use Rattle.scan.proofs.Blanks.{blank-take}
@@ -20,7 +21,6 @@ use Rattle.wipe.specs.Scrub.{size_of, next_chunk, after_read, read_step, reread_
 use Rattle.wipe.specs.declared.scrub.Chunk.{Chunk}
 use Rattle.wipe.specs.declared.scrub.Rows.{Rows}
 use Rattle.wipe.specs.declared.scrub.Scrub.TheVariants as C
-use Rattle.wipe.specs.declared.scrub.Scrubbed.TheVariants.{More, Not}
 use Rattle.numbers.specs.Flat.{bit_of}
 use Rattle.kept.specs.Bytes.{Bytes}
 use Rattle.kept.specs.Kept.{Answers}
@@ -130,7 +130,7 @@ four_bytes a b c d =
 pub record Found (p : Chunk) (r : Rows) : Type 0 where
   pub got : List ℕ
   pub answers : Answers (scrub_ask (C.Read p)) got
-  pub leads : read_step p true got ≡ More (C.Row p r)
+  pub leads : read_step p true got ≡ Ok (Some (C.Row p r))
 
 -- four rows are found as they are
 module _ (m : Mark) (p : Chunk) (i : ChunkIn m p) (a b c d : Bool)
@@ -147,7 +147,7 @@ module _ (m : Mark) (p : Chunk) (i : ChunkIn m p) (a b c d : Bool)
       (dirty_four a b c d k (omega (arith, s, w)) (omega arith)
       (λ h. let u = fb h in omega (arith, u, w)) (λ h. let u = fc h in omega (arith, u, w)) (λ h. let u = fd h in omega (arith, u, w)))
 
-  found : (r : Rows) → after_read p (a ∷ b ∷ c ∷ d ∷ []) ≡ More (C.Row p r) → Found p r
+  found : (r : Rows) → after_read p (a ∷ b ∷ c ∷ d ∷ []) ≡ Ok (Some (C.Row p r)) → Found p r
   found r e = record { got = four a b c d; answers = record { bytes = four_bytes a b c d; enough = omega arith }; leads = ap (after_read p) four_read ∙ e }
 
 -- a chunk of zeros: the next one is read
@@ -161,7 +161,7 @@ pub next-read : (m : Mark) (p : Chunk) → ChunkIn m p → next_chunk p ≡ read
 next-read m p i = ap (after_read p) (sym (four_read m p i false false false false never never never))
 
 pub next-reread : (p : Chunk) → next_chunk p ≡ reread_step p true zeros
-next-reread p = ap (λ (b : Bool). pick b (next_chunk p) (Not NotTaken)) (sym (blank-take (size_of p.at p.end) zeros refl))
+next-reread p = ap (λ (b : Bool). pick b (next_chunk p) (Err NotTaken)) (sym (blank-take (size_of p.at p.end) zeros refl))
 
 module _ (m : Mark) (p : Chunk) (r : Rows) (i : ChunkIn m p) (q : RowIn p r) where
   -- r is the row j of its chunk
@@ -170,19 +170,19 @@ module _ (m : Mark) (p : Chunk) (r : Rows) (i : ChunkIn m p) (q : RowIn p r) whe
       let b : p.at ≡ r.row = omega (arith, e) in
       found m p i true r.x r.y r.z
       (λ h. let u = q.x h in omega (arith, u, e)) (λ h. let u = q.y h in omega (arith, u, e)) (λ h. let u = q.z h in omega (arith, u, e)) r
-      (λ k. More (C.Row p (record { row = b k; x = r.x; y = r.y; z = r.z })))
+      (λ k. Ok (Some (C.Row p (record { row = b k; x = r.x; y = r.y; z = r.z }))))
   found_at (suc zero) e =
       let g = q.here in
       let ez = no_z m p i r q (omega (arith, e)) in
       found m p i false true r.x r.y (λ _. omega (arith, e, g)) (λ h. let u = q.x h in omega (arith, u, e)) (λ h. let u = q.y h in omega (arith, u, e)) r
-      (λ k. More (C.Row p (record { row = e k; x = r.x; y = r.y; z = sym ez k })))
+      (λ k. Ok (Some (C.Row p (record { row = e k; x = r.x; y = r.y; z = sym ez k }))))
   found_at (suc (suc zero)) e =
       let g = q.here in
       let b : p.at + 16 + 16 ≡ r.row = omega (arith, e) in
       let ez = no_z m p i r q (omega (arith, e)) in
       let ey = no_y m p i r q (omega (arith, e)) in
       found m p i false false true r.x never (λ _. omega (arith, e, g)) (λ h. let u = q.x h in omega (arith, u, e)) r
-      (λ k. More (C.Row p (record { row = b k; x = r.x; y = sym ey k; z = sym ez k })))
+      (λ k. Ok (Some (C.Row p (record { row = b k; x = r.x; y = sym ey k; z = sym ez k }))))
   found_at (suc (suc (suc zero))) e =
       let g = q.here in
       let b : p.at + 16 + 16 + 16 ≡ r.row = omega (arith, e) in
@@ -190,7 +190,7 @@ module _ (m : Mark) (p : Chunk) (r : Rows) (i : ChunkIn m p) (q : RowIn p r) whe
       let ey = no_y m p i r q (omega (arith, e)) in
       let ex = no_x m p i r q (omega (arith, e)) in
       found m p i false false false true never never (λ _. omega (arith, e, g)) r
-      (λ k. More (C.Row p (record { row = b k; x = sym ex k; y = sym ey k; z = sym ez k })))
+      (λ k. Ok (Some (C.Row p (record { row = b k; x = sym ex k; y = sym ey k; z = sym ez k }))))
   found_at (suc (suc (suc (suc j)))) e = let g = q.here in absurd (omega (arith, e, g))
 
   pub found_any : Found p r

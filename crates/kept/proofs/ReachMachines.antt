@@ -7,16 +7,15 @@ use native.Mathlib.Omega.{arith}
 use lib.ListN.{length, replicate}
 use lib.Dec.{ltb}
 use borrow.Author.Tests.{ltb-true}
+use Rattle.std.specs.Prelude.{Ok, Some}
 use Rattle.protocol.specs.Mark.{Mark}
 use Rattle.machine.specs.Wait.{wait_new, wait_ask, wait_step}
 use Rattle.machine.specs.Switch.{switch_new, switch_ask, switch_step}
 use Rattle.setup.specs.Setup.{setup_ask, setup_step}
 use Rattle.machine.specs.declared.wait.Wait.{Wait}
 use Rattle.machine.specs.declared.wait.Wait.TheVariants.{Poll, Pause}
-use Rattle.machine.specs.declared.wait.Waited.TheVariants as W
 use Rattle.machine.specs.declared.switch.Switch.{Switch}
 use Rattle.machine.specs.declared.switch.Switch.TheVariants.{Flip, Clear, Look, Rest}
-use Rattle.machine.specs.declared.switch.Switched.TheVariants as S
 use Rattle.password.specs.declared.Open.{Open}
 use Rattle.password.specs.declared.Open.TheVariants as O
 use Rattle.storing.specs.declared.Store.{Store}
@@ -25,7 +24,6 @@ use Rattle.setup.specs.declared.setup.Job.{Job}
 use Rattle.setup.specs.declared.setup.Job.TheVariants as J
 use Rattle.setup.specs.declared.setup.Setup.{Setup}
 use Rattle.setup.specs.declared.setup.Setup.TheVariants as I
-use Rattle.setup.specs.declared.setup.SetupStep.TheVariants as U
 use Rattle.stages.specs.Turns.{stage_ask, stage_step}
 use Rattle.stages.specs.declared.stage.Stage.{Stage}
 use Rattle.stages.specs.declared.stage.Turn.TheVariants as D
@@ -49,9 +47,9 @@ switch_asked (Rest on n) = omega arith
 
 -- a wait inside a stage
 module _ (m : Mark) (rows n : ℕ) (lent : List ℕ) (l : length lent ≡ n) (b : Bytes lent) (f : Wait → Stage)
-    (step : (w v : Wait) (ack : Bool) → wait_step w ack ≡ W.More v → stage_step lent m (f w) ack [] ≡ D.Open m (f v))
+    (step : (w v : Wait) (ack : Bool) → wait_step w ack ≡ Ok (Some v) → stage_step lent m (f w) ack [] ≡ D.Open m (f v))
     (asks : (w : Wait) → stage_ask n (f w) ≡ wait_ask w) where
-  polls : (w v : Wait) (ack : Bool) → wait_step w ack ≡ W.More v → Kept (at m rows n (f w)) → Kept (at m rows n (f v))
+  polls : (w v : Wait) (ack : Bool) → wait_step w ack ≡ Ok (Some v) → Kept (at m rows n (f w)) → Kept (at m rows n (f v))
   polls w v ack e =
       onto m m rows rows n (f w) (f v) (wait_ask w) lent ack [] (asks w) l b (says_none (wait_ask w) (wait_asked w)) (step w v ack e) (omega (arith, wait_counts w ack))
 
@@ -73,12 +71,12 @@ module _ (m : Mark) (rows n : ℕ) (lent : List ℕ) (l : length lent ≡ n) (b 
 
 -- RF, switched inside a stage
 module _ (m : Mark) (f : Switch → Stage)
-    (step : (s t : Switch) (ack : Bool) (v : ℕ) → switch_step s ack v ≡ S.More t → stage_step [] m (f s) ack (v ∷ []) ≡ D.Open m (f t))
+    (step : (s t : Switch) (ack : Bool) (v : ℕ) → switch_step s ack v ≡ Ok (Some t) → stage_step [] m (f s) ack (v ∷ []) ≡ D.Open m (f t))
     (asks : (s : Switch) → stage_ask 0 (f s) ≡ switch_ask s) where
   abbrev Here : Switch → Type 0
   Here s = Kept (at m 0 0 (f s))
 
-  moves : (s t : Switch) (ack : Bool) → switch_step s ack 0 ≡ S.More t → Here s → Here t
+  moves : (s t : Switch) (ack : Bool) → switch_step s ack 0 ≡ Ok (Some t) → Here s → Here t
   moves s t ack e =
       along m (f s) (f t) (switch_ask s) ack (0 ∷ []) (asks s) (says-one (switch_ask s) 0 (switch_asked s) (omega arith)) (step s t ack 0 e) (switch_counts s ack)
 
@@ -127,19 +125,19 @@ part_bytes =
 
 -- the setup inside a stage
 module _ (m : Mark) (f : Setup → Stage)
-    (step : (s t : Setup) (ack : Bool) (got : List ℕ) → setup_step s ack got ≡ U.More t → stage_step [] m (f s) ack got ≡ D.Open m (f t))
+    (step : (s t : Setup) (ack : Bool) (got : List ℕ) → setup_step s ack got ≡ Ok (Some t) → stage_step [] m (f s) ack got ≡ D.Open m (f t))
     (asks : (s : Setup) → stage_ask 0 (f s) ≡ setup_ask s) (begun : Kept (at m 0 0 (f I.Identify))) where
   abbrev Now : Setup → Type 0
   Now s = Kept (at m 0 0 (f s))
 
-  goes : (s t : Setup) (got : List ℕ) → Answers (setup_ask s) got → setup_step s true got ≡ U.More t → Now s → Now t
+  goes : (s t : Setup) (got : List ℕ) → Answers (setup_ask s) got → setup_step s true got ≡ Ok (Some t) → Now s → Now t
   goes s t got g e = along m (f s) (f t) (setup_ask s) true got (asks s) g (step s t true got e) (setup_counts s true)
 
   -- a transfer that reads nothing, and one that reads a byte
-  does : (s t : Setup) → asked (setup_ask s) ≡ 0 → setup_step s true [] ≡ U.More t → Now s → Now t
+  does : (s t : Setup) → asked (setup_ask s) ≡ 0 → setup_step s true [] ≡ Ok (Some t) → Now s → Now t
   does s t n = goes s t [] (says_none (setup_ask s) n)
 
-  reads : (s t : Setup) (x : ℕ) → asked (setup_ask s) ≤ 1 → x < 256 → setup_step s true (x ∷ []) ≡ U.More t → Now s → Now t
+  reads : (s t : Setup) (x : ℕ) → asked (setup_ask s) ≤ 1 → x < 256 → setup_step s true (x ∷ []) ≡ Ok (Some t) → Now s → Now t
   reads s t x n h = goes s t (x ∷ []) (says-one (setup_ask s) x n h)
 
   config : Now I.Config

@@ -6,6 +6,7 @@ use mathlib.Core.List.{List, []}
 use mathlib.Core.Logic.{⊎_elim}
 use Prim.Native.Nat.{ℕ, zero, suc, ◌+◌, ◌-◌, ◌/◌, ◌≤◌, ◌<◌}
 use native.Mathlib.Omega.{arith}
+use Rattle.std.specs.Prelude.{Ok, Some}
 use Rattle.slices.proofs.Cases.{lt_or_ge}
 use Rattle.protocol.specs.Mark.{Mark, wipe_end}
 use Rattle.protocol.specs.Write.{chunks}
@@ -15,7 +16,6 @@ use Rattle.wipe.specs.declared.scrub.Chunk.{Chunk}
 use Rattle.wipe.specs.declared.scrub.Rows.{Rows}
 use Rattle.wipe.specs.declared.scrub.Scrub.{Scrub}
 use Rattle.wipe.specs.declared.scrub.Scrub.TheVariants as C
-use Rattle.wipe.specs.declared.scrub.Scrubbed.TheVariants.{More}
 use Rattle.stages.specs.Turns.{stage_ask, stage_step}
 use Rattle.stages.specs.declared.stage.Stage.{Stage}
 use Rattle.stages.specs.declared.stage.Turn.TheVariants as D
@@ -27,19 +27,19 @@ use Rattle.kept.proofs.ReachFound.{before, last_of, prev_of, before_in, before-s
 use Rattle.kept.proofs.Reach.{at, onto}
 use Rattle.kept.proofs.ReachMachines.{wait_reached}
 
-next-before : (p : Chunk) → 64 ≤ p.at → next_chunk (before p) ≡ More (C.Read p)
+next-before : (p : Chunk) → 64 ≤ p.at → next_chunk (before p) ≡ Ok (Some (C.Read p))
 next-before p h =
     let e : p.at - 64 + 64 ≡ p.at = omega (arith, h) in
-    λ i. More (C.Read (record { left = p.left; at = e i; end = p.end }))
+    λ i. Ok (Some (C.Read (record { left = p.left; at = e i; end = p.end })))
 
 module _ (m : Mark) (f : Scrub → Stage)
-    (step : (s t : Scrub) (ack : Bool) (got : List ℕ) → scrub_step s ack got ≡ More t → stage_step [] m (f s) ack got ≡ D.Open m (f t))
+    (step : (s t : Scrub) (ack : Bool) (got : List ℕ) → scrub_step s ack got ≡ Ok (Some t) → stage_step [] m (f s) ack got ≡ D.Open m (f t))
     (asks : (s : Scrub) → stage_ask 0 (f s) ≡ scrub_ask s)
     (begun : (left : ℕ) → chunks (wipe_end m) ≡ suc left → Kept (at m 0 0 (f (C.Read (record { left = left; at = 0; end = wipe_end m }))))) where
   abbrev Here : ℕ → Scrub → Type 0
   Here rows s = Kept (at m rows 0 (f s))
 
-  moves : (rows more : ℕ) (s t : Scrub) (got : List ℕ) → Answers (scrub_ask s) got → scrub_step s true got ≡ More t → rows + counted (scrub_ask s) true ≡ more
+  moves : (rows more : ℕ) (s t : Scrub) (got : List ℕ) → Answers (scrub_ask s) got → scrub_step s true got ≡ Ok (Some t) → rows + counted (scrub_ask s) true ≡ more
       → Here rows s → Here more t
   moves rows more s t got g e c = onto m m rows more 0 (f s) (f t) (scrub_ask s) [] true got (asks s) refl bytes-none g (step s t true got e) c
 
@@ -84,7 +84,7 @@ module _ (m : Mark) (f : Scrub → Stage)
       let b : r.row - 16 + 16 ≡ r.row = omega (arith, u, v, w) in
       let ez = no_z m p i r q (omega (arith, u, v, w)) in
       moves rows rows (C.Wait p (prev_of r) wait_new) (C.Row p r) [] (says_none (scrub_ask (C.Wait p (prev_of r) wait_new)) refl)
-      (λ k. More (C.Row p (record { row = b k; x = r.x; y = r.y; z = sym ez k }))) (omega arith)
+      (λ k. Ok (Some (C.Row p (record { row = b k; x = r.x; y = r.y; z = sym ez k })))) (omega arith)
       (row-waits rows p (prev_of r) n (prev u n)))
       (λ g. let a = found_any m p r i q in moves rows rows (C.Read p) (C.Row p r) a.got a.answers a.leads (omega arith) (read g))
       (lt_or_ge (p.at / 16) rows)

@@ -9,6 +9,7 @@ use lib.ListN.{length, get_or, take, drop, replicate, length-take, length-drop}
 use lib.Seq.{take_all, drop-cons}
 use lib.Dec.{eqb}
 use borrow.Author.Tests.{le-ltb, eqb-true, eqb-false, eq-eqb, ne_eqb}
+use Rattle.std.specs.Prelude.{Ok, Err, Some}
 use Rattle.slices.specs.Pick.{pick}
 use Rattle.slices.proofs.Cases.{lt_or_ge, pick_cases}
 use Rattle.slices.proofs.Truths.{either_way}
@@ -18,7 +19,6 @@ use Rattle.scan.proofs.Cutting.{count-more}
 use Rattle.protocol.specs.Mark.{Mark, widened}
 use Rattle.protocol.specs.Write.{chunks}
 use Rattle.protocol.specs.Call as call
-use Rattle.protocol.specs.declared.answer.Answer.TheVariants as P
 use Rattle.protocol.specs.declared.answer.TagError.TheVariants.{NotTaken}
 use Rattle.machine.specs.Wait.{wait_new}
 use Rattle.writing.specs.Write.{piece_of, chunk_of, check_from, piece_from, write_new, write_step, write_ask}
@@ -26,7 +26,6 @@ use Rattle.writing.specs.declared.write.Piece.{Piece}
 use Rattle.writing.specs.declared.write.Check.{Check}
 use Rattle.writing.specs.declared.write.Write.{Write}
 use Rattle.writing.specs.declared.write.Write.TheVariants as K
-use Rattle.writing.specs.declared.write.Written.TheVariants.{More}
 use Rattle.stages.specs.Turns.{write_turn}
 use Rattle.stages.specs.declared.stage.Stage.TheVariants as G
 use Rattle.stages.specs.declared.stage.Turn.TheVariants as D
@@ -127,7 +126,7 @@ module _ (m : Mark) (inside : m ≤ 8192) (bs : List ℕ) (are : Bytes bs) where
   abbrev Here : ℕ → Write → Type 0
   Here rows w = Kept (at m rows (length bs) (G.Write w))
 
-  moves : (rows more : ℕ) (w v : Write) (got : List ℕ) → Answers (write_ask (length bs) w) got → write_step w true got bs ≡ More v
+  moves : (rows more : ℕ) (w v : Write) (got : List ℕ) → Answers (write_ask (length bs) w) got → write_step w true got bs ≡ Ok (Some v)
       → rows + counted (write_ask (length bs) w) true ≡ more → Here rows w → Here more v
   moves rows more w v got g e c = onto m m rows more (length bs) (G.Write w) (G.Write v) (write_ask (length bs) w) bs true got refl refl are g (ap (write_turn m) e) c
 
@@ -142,7 +141,7 @@ module _ (m : Mark) (inside : m ≤ 8192) (bs : List ℕ) (are : Bytes bs) where
       let s = count-some p.start (length bs) (omega (arith, g)) in
       let c : row_count p.start (length bs) ≡ suc p.left = omega (arith, d, s) in
       called (call.write p.start bs) m m (length bs) (G.Write (K.Row p)) inside refl are
-      (ap (λ (t : Bool). pick t (D.Over m (P.Not NotTaken)) (write_turn (widened m p.start (p.start + length bs)) (write_new p.start (length bs))))
+      (ap (λ (t : Bool). pick t (D.Over m (Err NotTaken)) (write_turn (widened m p.start (p.start + length bs)) (write_new p.start (length bs))))
       (le-ltb 8192 (p.start + length bs) (omega (arith, f)))
       ∙ ap₂ (λ (k : Mark) (x : ℕ). write_turn k (piece_from x p.start 0 (length bs))) (widened_same m p.start (p.start + length bs) f) c
       ∙ (λ j. D.Open m (G.Write (K.Row (record { left = p.left; start = p.start; done = sym z j })))))
@@ -154,7 +153,7 @@ module _ (m : Mark) (inside : m ≤ 8192) (bs : List ℕ) (are : Bytes bs) where
   piece_next rows p i h g k =
       let e = prev_piece m (length bs) p i h in
       moves rows rows (K.Wait (prev_of p) wait_new) (K.Row p) [] (says_none (write_ask (length bs) (K.Wait (prev_of p) wait_new)) refl)
-      (λ j. More (K.Row (record { left = p.left; start = p.start; done = e j }))) (omega arith)
+      (λ j. Ok (Some (K.Row (record { left = p.left; start = p.start; done = e j })))) (omega arith)
       (row-waits rows (prev_of p) g k)
 
   piece_zero : (rows : ℕ) (p : Piece) → p.done ≡ 0 → PieceIn m (length bs) p → rows + p.start / 16 ≡ (p.start + p.done) / 16 → Here rows (K.Row p)
@@ -197,7 +196,7 @@ module _ (m : Mark) (inside : m ≤ 8192) (bs : List ℕ) (are : Bytes bs) where
       let d = all_rows c.start rows i.fits (omega (arith, g)) r in
       moves rows rows (K.Wait (record { left = 0; start = c.start; done = d.0 }) wait_new) (K.Check c) []
       (says_none (write_ask (length bs) (K.Wait (record { left = 0; start = c.start; done = d.0 }) wait_new)) refl)
-      (ap (λ (x : ℕ). check_from x c.start 0 true) n ∙ (λ j. More (K.Check (record { left = c.left; start = c.start; done = sym z j; alike = sym y j }))))
+      (ap (λ (x : ℕ). check_from x c.start 0 true) n ∙ (λ j. Ok (Some (K.Check (record { left = c.left; start = c.start; done = sym z j; alike = sym y j })))))
       (omega arith) d.1
 
   -- the chunk before one, which was alike
@@ -246,7 +245,7 @@ module _ (m : Mark) (inside : m ≤ 8192) (bs : List ℕ) (are : Bytes bs) where
       let d : c.done - 64 + 64 ≡ c.done = omega (arith, v, h) in
       let e = k.says in
       moves rows rows (K.Check (back_of c)) (K.Check c) k.got (record { bytes = k.bytes; enough = k.enough })
-      (λ j. More (K.Check (record { left = c.left; start = c.start; done = d j; alike = e j }))) (omega arith)
+      (λ j. Ok (Some (K.Check (record { left = c.left; start = c.start; done = d j; alike = e j })))) (omega arith)
 
   checks : (k rows : ℕ) (c : Check) → c.done ≤ k → c.alike ≡ true → CheckIn m (length bs) c → rows + c.start / 16 ≡ (c.start + length bs - 1) / 16 + 1 → Here rows (K.Check c)
   checks zero rows c l y i r = first_check rows c i (omega (arith, l)) y r

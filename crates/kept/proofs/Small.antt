@@ -7,6 +7,7 @@ use Prim.Native.Nat.{ℕ, ◌+◌, ◌-◌, ◌/◌, ◌≤◌, ◌<◌}
 use native.Mathlib.Omega.{arith}
 use lib.Dec.{eqb, leb}
 use borrow.Author.Tests.{ltb-false, eqb-true, not-true}
+use Rattle.std.specs.Prelude.{Option, Some, None}
 use Rattle.protocol.specs.Mark.{Mark}
 use Rattle.protocol.specs.Write.{past}
 use Rattle.wipe.specs.declared.scrub.Chunk.{Chunk}
@@ -18,8 +19,6 @@ use Rattle.writing.specs.declared.write.Write.TheVariants as K
 use Rattle.stages.specs.declared.stage.Stage.{Stage}
 use Rattle.stages.specs.declared.stage.Stage.TheVariants as G
 use Rattle.session.specs.Sound.{setup_sound, wait_sound, switch_sound, off_sound, scrub_sound, plain, stage_sound, now_sound, sound}
-use Rattle.session.specs.declared.session.Now.{Now}
-use Rattle.session.specs.declared.session.Now.TheVariants as N
 use Rattle.session.specs.declared.session.Session.{Session}
 use Rattle.slices.proofs.Truths.{both}
 use Rattle.numbers.specs.Flat.{bits_of, place_at, no_place, scrub_place, write_place, stage_place, now_flat, flatten}
@@ -142,11 +141,11 @@ stage_small m rows n (G.FinishOff s) l e = still rows n (off_sound s) e
 stage_small m rows n (G.FinishStatus stuck) l e = plain-small rows n no_place e nowhere
 stage_small m rows n (G.FinishWipe stuck s) l e = let a = both (eqb n 0) (scrub_sound m rows s) e in scrub-small m rows n s (eqb-true n 0 a.0) (scrub-says m rows s a.1)
 
-now_small : (m rows n : ℕ) (now : Now) → m ≤ 8192 → now_sound m rows n now ≡ true → Small (now_flat m rows n now)
-now_small m rows n N.Idle l e =
+now_small : (m rows n : ℕ) (now : Option Stage) → m ≤ 8192 → now_sound m rows n now ≡ true → Small (now_flat m rows n now)
+now_small m rows n None l e =
     let a = plain-small rows n no_place e nowhere in
     record { mark = omega (arith, l); rows = a.rows; lent = a.lent; place = nowhere }
-now_small m rows n (N.Open st) l e =
+now_small m rows n (Some st) l e =
     let a = stage_small m rows n st l e in
     record { mark = omega (arith, l); rows = a.rows; lent = a.lent; place = a.place }
 

@@ -9,11 +9,13 @@ use native.Mathlib.Omega.{arith}
 use lib.ListN.{length, take, length-take}
 use lib.Dec.{eqb}
 use borrow.Author.Tests.{ltb-false, eqb-true, le-leb, eq-eqb}
+use Rattle.std.specs.Prelude.{Ok, Err, Some, None}
 use Rattle.slices.specs.Pick.{pick}
 use Rattle.slices.proofs.Cases.{pick_cases}
 use Rattle.slices.proofs.Truths.{both, both_so}
 use Rattle.protocol.specs.Mark.{Mark, whole, widened, is_none, wipe_end}
 use Rattle.protocol.proofs.Marks.{inside-none, inside-whole, inside-widened, inside_found}
+use Rattle.protocol.specs.Answer.{Progress}
 use Rattle.protocol.specs.Write.{past}
 use Rattle.protocol.specs.Call.{Call}
 use Rattle.protocol.specs.Call as call
@@ -23,16 +25,11 @@ use Rattle.machine.specs.Switch.{switch_step}
 use Rattle.setup.specs.Setup.{setup_step, identified}
 use Rattle.wipe.specs.Scrub.{scrub_new, scrub_step}
 use Rattle.writing.specs.Write.{write_new, write_step}
-use Rattle.machine.specs.declared.wait.Waited.{Waited}
-use Rattle.machine.specs.declared.wait.Waited.TheVariants as W
-use Rattle.machine.specs.declared.switch.Switched.{Switched}
-use Rattle.machine.specs.declared.switch.Switched.TheVariants as S
-use Rattle.setup.specs.declared.setup.SetupStep.{SetupStep}
-use Rattle.setup.specs.declared.setup.SetupStep.TheVariants as U
-use Rattle.wipe.specs.declared.scrub.Scrubbed.{Scrubbed}
-use Rattle.wipe.specs.declared.scrub.Scrubbed.TheVariants as C
-use Rattle.writing.specs.declared.write.Written.{Written}
-use Rattle.writing.specs.declared.write.Written.TheVariants as R
+use Rattle.machine.specs.declared.wait.Wait.{Wait}
+use Rattle.machine.specs.Switch.{Switched}
+use Rattle.setup.specs.declared.setup.Setup.{Setup}
+use Rattle.wipe.specs.declared.scrub.Scrub.{Scrub}
+use Rattle.writing.specs.declared.write.Write.{Write}
 use Rattle.stages.specs.Turns.{stage_ask, wrote_byte, identify_turn, prepare_turn, wait_turn, write_turn, switch_turn, whole_turn, wipe_turn, wipe_start, begin_turn, begin_off_turn, finish_off_turn, finish_turn, finish_start, stage_step, start_of, lent_to}
 use Rattle.stages.specs.declared.stage.Stage.{Stage}
 use Rattle.stages.specs.declared.stage.Stage.TheVariants as G
@@ -63,20 +60,20 @@ plain_kept rows n k e z =
     both_so _ _ (eq-eqb (rows + k) 0 (omega (arith, h, z))) a.1
 
 -- and so does one without data whose rows are counted
-wipe_turn_lem : (m : Mark) (rows n : ℕ) (x : Scrubbed) → m ≤ 8192 → eqb n 0 ≡ true → ScrubbedIn m rows x → TurnIn rows n (wipe_turn m x)
-wipe_turn_lem m rows n (C.More s) h e i = (h, both_so _ _ e (scrub_so m rows s i))
-wipe_turn_lem m rows n C.Done h e i = inside-none
-wipe_turn_lem m rows n (C.Not t) h e i = h
+wipe_turn_lem : (m : Mark) (rows n : ℕ) (x : Progress Scrub) → m ≤ 8192 → eqb n 0 ≡ true → ScrubbedIn m rows x → TurnIn rows n (wipe_turn m x)
+wipe_turn_lem m rows n (Ok (Some s)) h e i = (h, both_so _ _ e (scrub_so m rows s i))
+wipe_turn_lem m rows n (Ok None) h e i = inside-none
+wipe_turn_lem m rows n (Err t) h e i = h
 
-finish-turn : (m : Mark) (rows n : ℕ) (stuck : Bool) (x : Scrubbed) → m ≤ 8192 → eqb n 0 ≡ true → ScrubbedIn m rows x → TurnIn rows n (finish_turn m stuck x)
-finish-turn m rows n stuck (C.More s) h e i = (h, both_so _ _ e (scrub_so m rows s i))
-finish-turn m rows n stuck C.Done h e i = inside-none
-finish-turn m rows n stuck (C.Not t) h e i = h
+finish-turn : (m : Mark) (rows n : ℕ) (stuck : Bool) (x : Progress Scrub) → m ≤ 8192 → eqb n 0 ≡ true → ScrubbedIn m rows x → TurnIn rows n (finish_turn m stuck x)
+finish-turn m rows n stuck (Ok (Some s)) h e i = (h, both_so _ _ e (scrub_so m rows s i))
+finish-turn m rows n stuck (Ok None) h e i = inside-none
+finish-turn m rows n stuck (Err t) h e i = h
 
-write-turn : (m : Mark) (rows n : ℕ) (x : Written) → m ≤ 8192 → WrittenIn m n rows x → TurnIn rows n (write_turn m x)
-write-turn m rows n (R.More w) h i = (h, write_so m n rows w i)
-write-turn m rows n R.Done h i = h
-write-turn m rows n (R.Not t) h i = h
+write-turn : (m : Mark) (rows n : ℕ) (x : Progress Write) → m ≤ 8192 → WrittenIn m n rows x → TurnIn rows n (write_turn m x)
+write-turn m rows n (Ok (Some w)) h i = (h, write_so m n rows w i)
+write-turn m rows n (Ok None) h i = h
+write-turn m rows n (Err t) h i = h
 
 module _ (m : Mark) (h : m ≤ 8192) where
   wipe_start_lem : (n : ℕ) → eqb n 0 ≡ true → TurnIn 0 n (wipe_start m)
@@ -87,49 +84,49 @@ module _ (m : Mark) (h : m ≤ 8192) where
 
   -- what the step of each machine means for the call that it serves
   module _ (rows n : ℕ) (p : plain rows n ≡ true) where
-    identify-turn : (x : SetupStep) → TurnIn rows n (identify_turn m x)
-    identify-turn (U.More s) = h
-    identify-turn U.Done = h
-    identify-turn (U.Not t) = h
+    identify-turn : (x : Progress Setup) → TurnIn rows n (identify_turn m x)
+    identify-turn (Ok (Some s)) = h
+    identify-turn (Ok None) = h
+    identify-turn (Err t) = h
 
-    prepare-turn : (x : SetupStep) → SetupIn x → TurnIn rows n (prepare_turn m x)
-    prepare-turn (U.More s) e = (h, both_so _ _ p e)
-    prepare-turn U.Done e = h
-    prepare-turn (U.Not t) e = h
+    prepare-turn : (x : Progress Setup) → SetupIn x → TurnIn rows n (prepare_turn m x)
+    prepare-turn (Ok (Some s)) e = (h, both_so _ _ p e)
+    prepare-turn (Ok None) e = h
+    prepare-turn (Err t) e = h
 
-    wait_turn_lem : (x : Waited) → WaitedIn x → TurnIn rows n (wait_turn m x)
-    wait_turn_lem (W.More w) e = (h, both_so _ _ p e)
-    wait_turn_lem W.Ready e = h
-    wait_turn_lem W.Busy e = h
+    wait_turn_lem : (x : Progress Wait) → WaitedIn x → TurnIn rows n (wait_turn m x)
+    wait_turn_lem (Ok (Some w)) e = (h, both_so _ _ p e)
+    wait_turn_lem (Ok None) e = h
+    wait_turn_lem (Err t) e = h
 
     switch_turn_lem : (x : Switched) → SwitchedIn switch_sound x → TurnIn rows n (switch_turn m x)
-    switch_turn_lem (S.More s) e = (h, both_so _ _ p e)
-    switch_turn_lem S.Done e = h
-    switch_turn_lem S.Stuck e = h
+    switch_turn_lem (Ok (Some s)) e = (h, both_so _ _ p e)
+    switch_turn_lem (Ok None) e = h
+    switch_turn_lem (Err t) e = h
 
     whole-turn : (x : Switched) → SwitchedIn off_sound x → TurnIn rows n (whole_turn m x)
-    whole-turn (S.More s) e = (h, both_so _ _ p e)
-    whole-turn S.Done e = (h, p)
-    whole-turn S.Stuck e = h
+    whole-turn (Ok (Some s)) e = (h, both_so _ _ p e)
+    whole-turn (Ok None) e = (h, p)
+    whole-turn (Err t) e = h
 
-    begin-turn : (x : SetupStep) → SetupIn x → TurnIn rows n (begin_turn m x)
-    begin-turn (U.More s) e = (h, both_so _ _ p e)
-    begin-turn U.Done e = (h, both_so _ _ p refl)
-    begin-turn (U.Not t) e = h
+    begin-turn : (x : Progress Setup) → SetupIn x → TurnIn rows n (begin_turn m x)
+    begin-turn (Ok (Some s)) e = (h, both_so _ _ p e)
+    begin-turn (Ok None) e = (h, both_so _ _ p refl)
+    begin-turn (Err t) e = h
 
     finish_off_turn_lem : (x : Switched) → SwitchedIn off_sound x → TurnIn rows n (finish_off_turn m x)
-    finish_off_turn_lem (S.More s) e = (h, both_so _ _ p e)
-    finish_off_turn_lem S.Done e = (h, p)
-    finish_off_turn_lem S.Stuck e = (h, p)
+    finish_off_turn_lem (Ok (Some s)) e = (h, both_so _ _ p e)
+    finish_off_turn_lem (Ok None) e = (h, p)
+    finish_off_turn_lem (Err t) e = (h, p)
 
     -- a wipe begins with no row programmed
     begin_off_turn_lem : (x : Switched) → SwitchedIn off_sound x → TurnIn rows n (begin_off_turn m x)
-    begin_off_turn_lem (S.More s) e = (h, both_so _ _ p e)
-    begin_off_turn_lem S.Done e =
+    begin_off_turn_lem (Ok (Some s)) e = (h, both_so _ _ p e)
+    begin_off_turn_lem (Ok None) e =
         let a = both (eqb rows 0) (eqb n 0) p in
         pick_cases (TurnIn rows n) (is_none m) (λ _. h)
         (λ _. subst (λ (k : ℕ). TurnIn k n (wipe_start m)) (sym (eqb-true rows 0 a.0)) (wipe_start_lem n a.1))
-    begin_off_turn_lem S.Stuck e = h
+    begin_off_turn_lem (Err t) e = h
 
 status_turn_lem : (m : Mark) (rows n : ℕ) (stuck b : Bool) → m ≤ 8192 → plain rows n ≡ true → TurnIn rows n (pick b (finish_start whole stuck) (finish_start m stuck))
 status_turn_lem m rows n stuck b h p =

@@ -7,31 +7,28 @@ use Prim.Native.Nat.{ℕ, zero, suc, ◌+◌, ◌-◌, ◌/◌, ◌%◌, ◌≤�
 use native.Mathlib.Omega.{arith}
 use lib.ListN.{length, take, drop, length-take}
 use lib.Seq.{drop-drop}
+use Rattle.std.specs.Prelude.{Ok, Err, Some, None}
 use Rattle.slices.proofs.Cases.{lt_or_ge, pick_cases}
 use Rattle.slices.proofs.Truths.{not-both, never}
 use Rattle.scan.specs.Zeros.{blank}
 use Rattle.scan.proofs.Blanks.{blank_none}
 use Rattle.protocol.specs.Mark.{Mark, wipe_end}
+use Rattle.protocol.specs.Answer.{Progress}
 use Rattle.protocol.specs.Scrub.{dirty_rows}
 use Rattle.protocol.specs.Write.{chunks}
 use Rattle.machine.specs.Wait.{wait_step}
-use Rattle.machine.specs.declared.wait.Waited.{Waited}
-use Rattle.machine.specs.declared.wait.Waited.TheVariants as W
+use Rattle.machine.specs.declared.wait.Wait.{Wait}
 use Rattle.wipe.specs.Scrub.{size_of, chunk_from, scrub_new, next_chunk, next_row, after_read, waited_step, scrub_step, scrub_ask}
 use Rattle.wipe.specs.declared.scrub.Chunk.{Chunk}
 use Rattle.wipe.specs.declared.scrub.Rows.{Rows}
 use Rattle.wipe.specs.declared.scrub.Scrub.{Scrub}
 use Rattle.wipe.specs.declared.scrub.Scrub.TheVariants as C
-use Rattle.wipe.specs.declared.scrub.Scrubbed.{Scrubbed}
-use Rattle.wipe.specs.declared.scrub.Scrubbed.TheVariants.{More, Done, Not}
 use Rattle.session.specs.Steps.{counted}
-use Rattle.kept.proofs.Machines.{WaitedIn, wait_kept, wait_counts}
+use Rattle.kept.proofs.Machines.{GoesOn, WaitedIn, wait_kept, wait_counts}
 use Rattle.kept.proofs.Chunks.{stop_of, ChunkIn, RowIn, ScrubIn, stop-rows}
 
-abbrev pub ScrubbedIn : Mark → ℕ → Scrubbed → Type 0
-ScrubbedIn m rows (More s) = ScrubIn m rows s
-ScrubbedIn m rows Done = Unit
-ScrubbedIn m rows (Not e) = Unit
+abbrev pub ScrubbedIn : Mark → ℕ → Progress Scrub → Type 0
+ScrubbedIn m rows x = GoesOn (λ (s : Scrub). ScrubIn m rows s) x
 
 -- the chunk at `at`, of which and of the ones after it there are `left`
 chunk-from : (m : Mark) (rows left at : ℕ) → at % 64 ≡ 0 → rows ≤ at / 16 → left ≡ (wipe_end m - at + 63) / 64
@@ -113,10 +110,10 @@ read_kept m rows p l i h n =
     (λ e. let q = dirty_inside l 32 (subst (λ (t : List ℕ). not (blank (take 16 t)) ≡ true) (drop-drop 16 16 l) e) in omega (arith, q, n))
     (λ e. let q = dirty_inside l 48 (subst (λ (t : List ℕ). not (blank (take 16 t)) ≡ true) (drop-drop 16 32 l) (subst (λ (t : List ℕ). not (blank (take 16 (drop 16 t))) ≡ true) (drop-drop 16 16 l) e)) in omega (arith, q, n))
 
-waited_kept : (m : Mark) (rows : ℕ) (p : Chunk) (r : Rows) (x : Waited) → ChunkIn m p → RowIn p r → 0 < rows → rows ≤ r.row / 16 + 1 → WaitedIn x
+waited_kept : (m : Mark) (rows : ℕ) (p : Chunk) (r : Rows) (x : Progress Wait) → ChunkIn m p → RowIn p r → 0 < rows → rows ≤ r.row / 16 + 1 → WaitedIn x
     → ScrubbedIn m rows (waited_step p r x)
-waited_kept m rows p r (W.More w) i q g h e = (i, q, g, h, e)
-waited_kept m rows p r W.Ready i q g h e =
+waited_kept m rows p r (Ok (Some w)) i q g h e = (i, q, g, h, e)
+waited_kept m rows p r (Ok None) i q g h e =
     let k = i.even in
     let a = q.here in
     let s = q.same in
@@ -124,7 +121,7 @@ waited_kept m rows p r W.Ready i q g h e =
     let t = stop-rows m p i in
     next_row_lem m rows (r.row + 16) p r.x r.y r.z i (omega (arith, k, s)) (omega (arith, a, v, t)) (omega (arith, v)) (omega (arith, h)) (λ _ _ _. g)
     q.x (λ e. let f = q.y e in omega (arith, f)) (λ e. let f = q.z e in omega (arith, f))
-waited_kept m rows p r W.Busy i q g h e = tt
+waited_kept m rows p r (Err t) i q g h e = tt
 
 pub scrub_kept : (m : Mark) (rows : ℕ) (s : Scrub) (ack : Bool) (got : List ℕ) → ScrubIn m rows s
     → ScrubbedIn m (rows + counted (scrub_ask s) ack) (scrub_step s ack got)

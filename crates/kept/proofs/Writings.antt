@@ -6,37 +6,34 @@ use mathlib.Core.Logic.{◌⊎◌, inl, inr, ⊎_elim}
 use Prim.Native.Nat.{ℕ, zero, suc, ◌+◌, ◌-◌, ◌/◌, ◌%◌, ◌≤◌, ◌<◌}
 use native.Mathlib.Omega.{arith}
 use lib.ListN.{length, take, drop}
+use Rattle.std.specs.Prelude.{Ok, Err, Some, None}
 use Rattle.slices.proofs.Cases.{lt_or_ge, pick_cases}
 use Rattle.scan.specs.Rows.{row_count}
 use Rattle.scan.specs.Zeros.{alike}
 use Rattle.scan.proofs.Cutting.{count-more, count_none, row-some, row_room, row_most}
 use Rattle.protocol.specs.Mark.{Mark}
+use Rattle.protocol.specs.Answer.{Progress}
 use Rattle.protocol.specs.Write.{chunks}
 use Rattle.protocol.specs.declared.answer.TagError.TheVariants.{NotTaken}
 use Rattle.machine.specs.Wait.{wait_step}
-use Rattle.machine.specs.declared.wait.Waited.{Waited}
-use Rattle.machine.specs.declared.wait.Waited.TheVariants as W
+use Rattle.machine.specs.declared.wait.Wait.{Wait}
 use Rattle.writing.specs.Write.{piece_of, chunk_of, check_from, check_new, piece_from, write_new, piece_waited, write_step, write_ask}
 use Rattle.writing.specs.declared.write.Piece.{Piece}
 use Rattle.writing.specs.declared.write.Write.{Write}
 use Rattle.writing.specs.declared.write.Write.TheVariants as K
-use Rattle.writing.specs.declared.write.Written.{Written}
-use Rattle.writing.specs.declared.write.Written.TheVariants.{More, Done, Not}
 use Rattle.session.specs.Steps.{counted}
 use Rattle.session.proofs.Unders.{count-some}
 use Rattle.kept.proofs.Rows.{row_full}
-use Rattle.kept.proofs.Machines.{WaitedIn, wait_kept, wait_counts}
+use Rattle.kept.proofs.Machines.{GoesOn, WaitedIn, wait_kept, wait_counts}
 use Rattle.kept.proofs.Pieces.{PieceIn, WriteIn}
 
-abbrev pub WrittenIn : Mark → ℕ → ℕ → Written → Type 0
-WrittenIn m len rows (More w) = WriteIn m len rows w
-WrittenIn m len rows Done = Unit
-WrittenIn m len rows (Not e) = Unit
+abbrev pub WrittenIn : Mark → ℕ → ℕ → Progress Write → Type 0
+WrittenIn m len rows x = GoesOn (λ (w : Write). WriteIn m len rows w) x
 
 -- `left` chunks from `done` on
 check_from_lem : (m : Mark) (len rows left start done : ℕ) (same : Bool) → start + len ≤ m → done % 64 ≡ 0 → left ≡ (len - done + 63) / 64
     → rows + start / 16 ≡ (start + len - 1) / 16 + 1 → (done ≡ 0 → same ≡ true) → WrittenIn m len rows (check_from left start done same)
-check_from_lem m len rows zero start done same f v e r h = pick_cases (WrittenIn m len rows) same {x = Done} {y = Not NotTaken} (λ _. tt) (λ _. tt)
+check_from_lem m len rows zero start done same f v e r h = pick_cases (WrittenIn m len rows) same {x = (Ok None)} {y = Err NotTaken} (λ _. tt) (λ _. tt)
 check_from_lem m len rows (suc left) start done same f v e r h =
     let g : done < len = omega (arith, e) in
     let l : left ≡ (len - done - 1) / 64 = omega (arith, e, g) in
@@ -99,11 +96,11 @@ module _ (m : Mark) (len : ℕ) (p : Piece) (i : PieceIn m len p) where
       (λ h. let q = next_full h in omega (arith, q, r))
       (λ h _. let q : p.done + piece_of p len ≡ len = omega (arith, h, most, g) in omega (arith, q, r, room, s))
 
-waited_kept : (m : Mark) (len rows : ℕ) (p : Piece) (x : Waited) → PieceIn m len p → rows + p.start / 16 ≡ (p.start + p.done) / 16 + 1 → WaitedIn x
+waited_kept : (m : Mark) (len rows : ℕ) (p : Piece) (x : Progress Wait) → PieceIn m len p → rows + p.start / 16 ≡ (p.start + p.done) / 16 + 1 → WaitedIn x
     → WrittenIn m len rows (piece_waited p x len)
-waited_kept m len rows p (W.More w) i r e = (i, r, e)
-waited_kept m len rows p W.Ready i r e = next_piece_lem m len p i rows r
-waited_kept m len rows p W.Busy i r e = tt
+waited_kept m len rows p (Ok (Some w)) i r e = (i, r, e)
+waited_kept m len rows p (Ok None) i r e = next_piece_lem m len p i rows r
+waited_kept m len rows p (Err t) i r e = tt
 
 pub write_kept : (m : Mark) (rows : ℕ) (w : Write) (ack : Bool) (got lent : List ℕ) → WriteIn m (length lent) rows w
     → WrittenIn m (length lent) (rows + counted (write_ask (length lent) w) ack) (write_step w ack got lent)

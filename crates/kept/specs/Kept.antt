@@ -5,7 +5,7 @@
 --   asked a          == how many bytes the transfer a reads
 --   Answers a got    == the bytes `got` can be the reply to a: so many, or more
 -- With each reply come the bytes that were lent: as many as the session says, otherwise any.
-use Rattle.std.specs.Prelude.{◌≡◌, Bool, List, ℕ, ◌+◌, ◌≤◌, length}
+use Rattle.std.specs.Prelude.{◌≡◌, Bool, List, ℕ, ◌+◌, ◌≤◌, length, Some}
 use Rattle.protocol.specs.Mark.{Mark, given}
 use Rattle.protocol.specs.Call.{Call}
 use Rattle.machine.specs.declared.ask.Ask.{Ask}
@@ -13,7 +13,6 @@ use Rattle.machine.specs.declared.ask.Ask.TheVariants as A
 use Rattle.stages.specs.Turns.{stage_ask, stage_step, start_of, lent_to}
 use Rattle.stages.specs.declared.stage.Stage.{Stage}
 use Rattle.session.specs.Steps.{idle, entered, counted}
-use Rattle.session.specs.declared.session.Now.TheVariants as N
 use Rattle.session.specs.declared.session.Session.{Session}
 use Rattle.kept.specs.Bytes.{Bytes}
 
@@ -33,6 +32,6 @@ pub record Answers (a : Ask) (got : List ℕ) : Type 0 where
 pub data Kept : Session → Type 0 where
   new : (n : ℕ) → Kept (idle (given n))
   started : (m : Mark) (c : Call) → Kept (idle m) → Bytes (lent_to c) → Kept (entered 0 (length (lent_to c)) (start_of c m))
-  replied : (s : Session) (st : Stage) (lent : List ℕ) (ack : Bool) (got : List ℕ) → Kept s → s.now ≡ N.Open st → length lent ≡ s.lent
+  replied : (s : Session) (st : Stage) (lent : List ℕ) (ack : Bool) (got : List ℕ) → Kept s → s.now ≡ Some st → length lent ≡ s.lent
       → Bytes lent → Answers (stage_ask s.lent st) got
       → Kept (entered (s.rows + counted (stage_ask s.lent st) ack) s.lent (stage_step lent s.mark st ack got))

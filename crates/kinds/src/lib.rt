@@ -15,6 +15,7 @@ pub fn kind(image: &[u8], r: Record) -> &[u8]
 }
 
 // Whether a record is of the well-known type whose name is the one byte `name`.
+#[tactic(auto, using(pieces::proofs::Parts::is_one, pieces::proofs::Parts::is_other), unfolding(pieces::specs::Parts::is_of))]
 pub fn is(image: &[u8], r: Record, name: u8) -> bool
     ensures { result ≡ is_of image.now r name }
 {

@@ -5,3 +5,4 @@ pub mod Lengths
 pub mod Numbers
 pub mod Payload
 pub mod Record
+pub mod Words

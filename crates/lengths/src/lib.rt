@@ -4,15 +4,6 @@
 ghost use Rattle.std.specs.Prelude.{◌≡◌, ◌+◌};
 ghost use Rattle.layout.specs.Lengths.{sat, head_len, block_len, image_len};
 
-const MOST: usize = 0xffff_ffff_ffff_ffff;
-
-// The sum, or the largest 64-bit number.
-pub fn sat_add(a: usize, b: usize) -> usize
-    ensures { result ≡ sat (a + b) }
-{
-    if a <= MOST - b { a + b } else { MOST }
-}
-
 // Header, type length and payload length of a record.
 pub fn head_len(payload: usize) -> usize
     ensures { result ≡ head_len payload }
@@ -31,6 +22,8 @@ pub fn block_len(n: usize) -> usize
 pub fn image_len_for(kind_len: usize, payload: usize) -> usize
     ensures { result ≡ sat (image_len kind_len payload) }
 {
-    let record = sat_add(sat_add(kind_len, payload), head_len(payload));
-    sat_add(record, block_len(record) + 9)
+    let record = kind_len
+        .saturating_add(payload)
+        .saturating_add(head_len(payload));
+    record.saturating_add(block_len(record) + 9)
 }

@@ -1,74 +1,101 @@
-// The answer's line, piece by piece, into a lent buffer. What does not fit is left out: the line is then another than it should be,
+// The answers' lines, piece by piece, into a buffer. What does not fit is left out: the line is then another than it should be,
 // and the comparison shows it.
-use cases::words::first;
-use slices::{copy_to, wide};
+ghost use Rattle.std.specs.Prelude.{◌≤◌};
 
-pub fn text(out: &mut [u8], at: usize, s: &[u8]) -> usize {
-    if at <= out.len() {
-        if s.len() <= out.len() - at {
-            return copy_to(out, at, s);
+use cases::words::word;
+use std::fmt::Write;
+use std::{fmt, io};
+
+const ROOM: usize = 262144;
+
+const HEX: [u8; 16] = *b"0123456789abcdef";
+
+// What has been said and not written out yet: the first `len` bytes, since there is no heap for a Vec.
+#[derive(Drop)]
+pub struct Said {
+    bytes: [u8; ROOM],
+    len: usize,
+    ghost within: { len ≤ 262144 },
+}
+
+impl Said {
+    pub fn new() -> Said {
+        Said {
+            bytes: [0; ROOM],
+            len: 0,
         }
     }
-    at
-}
 
-pub fn number(out: &mut [u8], at: usize, n: usize) -> usize {
-    let mut digits = [0u8; 20];
-    let k = io::decimal(n as u64, &mut digits);
-    let a = text(out, at, b" ");
-    text(out, a, &digits[..k])
-}
-
-fn hex_digit(n: u8) -> u8 {
-    let d = n % 16;
-    if d < 10 { b'0' + d } else { b'a' - 10 + d }
-}
-
-fn pairs(out: &mut [u8], at: usize, s: &[u8]) -> usize {
-    let mut a = at;
-    let mut i = 0;
-    while i < s.len() {
-        let pair = [hex_digit(s[i] / 16), hex_digit(s[i])];
-        a = text(out, a, &pair);
-        i += 1;
+    pub fn text(&mut self, s: &[u8]) {
+        if s.len() <= ROOM - self.len {
+            let end = self.len + s.len();
+            self.bytes[self.len..end].copy_from_slice(s);
+            self.len = end;
+        }
     }
-    a
+
+    // How an answer begins: the call's name, the first word of its line, and the refusal's number, 0 for none.
+    pub fn head(&mut self, line: &[u8], refusal: u32) {
+        self.text(word(line, 0));
+        self.number(refusal as usize);
+    }
+
+    pub fn number(&mut self, n: usize) {
+        let _ = write!(self, " {n}");
+    }
+
+    pub fn bytes(&mut self, s: &[u8]) {
+        self.text(b" ");
+        self.bare_bytes(s);
+    }
+
+    // Bytes: a dash for none, hex up to 40, else their number and digest.
+    pub fn bare_bytes(&mut self, s: &[u8]) {
+        match s.len() {
+            0 => self.text(b"-"),
+            1..=40 => self.pairs(s),
+            n => {
+                let h = digest(s);
+                let _ = write!(self, "{n}:{h}");
+            }
+        }
+    }
+
+    fn pairs(&mut self, s: &[u8]) {
+        for b in s {
+            self.text(&[HEX[usize::from(b / 16)], HEX[usize::from(b % 16)]]);
+        }
+    }
+
+    // The end of a line; what has been said is written out once the buffer is half full.
+    pub fn end_line<W: io::Write>(&mut self, to: &mut W) -> io::Result<()> {
+        self.text(b"\n");
+        if self.len < ROOM / 2 {
+            return Ok(());
+        }
+        self.flush(to)
+    }
+
+    // Writes out what has been said.
+    pub fn flush<W: io::Write>(&mut self, to: &mut W) -> io::Result<()> {
+        to.write_all(&self.bytes[..self.len])?;
+        self.len = 0;
+        Ok(())
+    }
+}
+
+impl fmt::Write for Said {
+    fn write_str(&mut self, s: &str) -> fmt::Result {
+        self.text(s.as_bytes());
+        Ok(())
+    }
 }
 
 // Every byte counts, and its place: h * 524287 + b + 1, modulo the largest prime below 2^44.
 pub fn digest(s: &[u8]) -> usize {
     let mut h: usize = 0;
-    let mut i = 0;
-    while i < s.len() {
-        h = (h * 524287 + wide(s[i]) + 1) % 17592186044399;
-        i += 1;
+    for b in s {
+        h = (h * 524287 + usize::from(*b) + 1) % 17592186044399;
     }
     h
-}
-
-// Bytes: a dash for none, hex up to 40, else their number and digest.
-pub fn bare_bytes(out: &mut [u8], at: usize, s: &[u8]) -> usize {
-    if s.len() == 0 {
-        return text(out, at, b"-");
-    }
-    if s.len() <= 40 {
-        return pairs(out, at, s);
-    }
-    let mut digits = [0u8; 20];
-    let k = io::decimal(s.len() as u64, &mut digits);
-    let a = text(out, at, &digits[..k]);
-    let b = text(out, a, b":");
-    let n = io::decimal(digest(s) as u64, &mut digits);
-    text(out, b, &digits[..n])
-}
-
-pub fn bytes(out: &mut [u8], at: usize, s: &[u8]) -> usize {
-    let a = text(out, at, b" ");
-    bare_bytes(out, a, s)
-}
-
-// How an answer begins: the call's name, the first word of its line, and document 01's number.
-pub fn head(line: &[u8], out: &mut [u8], at: usize, no: usize) -> usize {
-    let a = text(out, at, first(line));
-    number(out, a, no)
 }

@@ -1,35 +1,38 @@
 -- The URI of a payload, case by case, as it is read.
-use mathlib.Core.Path.{◌≡◌, refl}
-use mathlib.Core.Bool.{Bool}
+use mathlib.Core.Path.{◌≡◌, refl, ap, sym, ◌∙◌}
+use mathlib.Core.Bool.{Bool, true, false}
 use mathlib.Core.List.{List, [], ◌∷◌}
-use Prim.Native.Nat.{ℕ, suc, ◌+◌, ◌-◌, ◌≤◌, ◌<◌}
+use Prim.Native.Nat.{ℕ, suc, ◌+◌, ◌-◌, ◌<◌}
 use native.Mathlib.Omega.{arith}
-use borrow.Author.Tests.{le-leb, lt-leb}
-use lib.ListN.{length, get_or, drop}
+use lib.ListN.{length, get_or, take, drop}
+use Rattle.std.specs.Prelude.{Option, None}
 use Rattle.slices.specs.Pick.{pick}
+use Rattle.slices.proofs.Splice.{part-rest}
+use Rattle.tlv.specs.Blocks.{span}
 use Rattle.utf8.specs.Utf8.{utf8}
 use Rattle.uri.specs.Prefixes.{prefix_answer}
-use Rattle.uri.specs.declared.Prefix.{Prefix}
-use Rattle.contents.specs.declared.Part.TheVariants.{At}
-use Rattle.links.specs.declared.Link.{Link}
-use Rattle.links.specs.Links.{no_link, uri_in}
+use Rattle.links.specs.Links.{Uri, with_prefix, uri_in}
 
--- a URI that was found
-abbrev pub link : ℕ → ℕ → ℕ → Prefix → Link
-link at len c p = record { rest = At at len; code = c; prefix = p }
-
-pub uri_empty : (p : List ℕ) (at : ℕ) → length p ≡ 0 → no_link ≡ uri_in p at
+pub uri_empty : (p : List ℕ) (at : ℕ) → length p ≡ 0 → None ≡ uri_in p at
 unfolding uri_in
 uri_empty [] at h = refl
 uri_empty (b ∷ s) at h = absurd (omega arith)
 
-pub uri_unknown : (p : List ℕ) (at : ℕ) → 0 < length p → 35 < get_or p 0 0 → no_link ≡ uri_in p at
-unfolding uri_in
-uri_unknown [] at h w = absurd (omega arith)
-uri_unknown (b ∷ s) at h w = simp (lt-leb b 35 w)
+either : (u : Bool) → ◌≡◌ {A = Option Uri} None (pick u None None)
+either true = refl
+either false = refl
 
-pub uri_read : (p : List ℕ) (at : ℕ) {u : Bool} → 0 < length p → get_or p 0 0 ≤ 35 → utf8 (drop 1 p) ≡ u
-    → pick u (record { rest = At (at + 1) (length p - 1); code = get_or p 0 0; prefix = (prefix_answer (get_or p 0 0)).prefix }) no_link ≡ uri_in p at
+pub uri_unknown : (p : List ℕ) (at : ℕ) → 0 < length p → prefix_answer (get_or p 0 0) ≡ None → None ≡ uri_in p at
 unfolding uri_in
-uri_read [] at h w e = absurd (omega arith)
-uri_read (b ∷ s) at h w e = let n : suc (length s) - 1 ≡ length s = omega arith in simp (le-leb b 35 w, e, n)
+uri_unknown [] at h e = absurd (omega arith)
+uri_unknown (b ∷ s) at h e = either (utf8 s) ∙ ap (λ (x : Option (List ℕ)). pick (utf8 s) (with_prefix (span (at + 1) (length s)) b x) None) (sym e)
+
+pub uri_read : (p : List ℕ) (at : ℕ) {x : Option (List ℕ)} {u : Bool} → 0 < length p → prefix_answer (get_or p 0 0) ≡ x
+    → utf8 (take (length p - 1) (drop 1 p)) ≡ u
+    → pick u (with_prefix (span (at + 1) (length p - 1)) (get_or p 0 0) x) None ≡ uri_in p at
+unfolding uri_in
+uri_read [] at h e f = absurd (omega arith)
+uri_read (b ∷ s) at h e f =
+    let n : suc (length s) - 1 ≡ length s = omega arith in
+    let d : utf8 s ≡ _ = ap utf8 (sym (part-rest (b ∷ s) 1)) ∙ f in
+    simp (e, d, n)

@@ -1,40 +1,24 @@
 -- A listing, case by case.
 --
---   message-listed    == a message's lines are those of its walk
---   message-refused   == where there is none, the line says why
 --   too_long          == an image over 8,192 bytes is refused
 --   short-enough      == any other has the lines of its message
 --   list_none         == a buffer that is too short: 0, and not a byte changed
 --   list_done         == any other: the listing is written at its front
-use mathlib.Core.Path.{◌≡◌, ap, sym, ◌∙◌}
+use mathlib.Core.Path.{◌≡◌, ap}
 use mathlib.Core.List.{List}
 use Prim.Native.Nat.{ℕ, ◌≤◌, ◌<◌}
 use native.Mathlib.Omega.{arith}
-use borrow.Author.Tests.{eq-eqb, ne_eqb, lt-ltb, le-ltb}
+use borrow.Author.Tests.{lt-ltb, le-ltb}
 use lib.ListN.{length}
 use Rattle.slices.specs.Bytes.{Wrote}
-use Rattle.blocks.specs.declared.Message.{Message}
-use Rattle.blocks.specs.Read.{read_of, number_of}
-use Rattle.walk.specs.declared.Cursor.{Cursor}
-use Rattle.walk.specs.Step.{start_of}
-use Rattle.walk.specs.Walked.{walked}
-use Rattle.listing.specs.Listing.{refused_line, listed, of_message, listing_of, list_room, list_answer, list_after}
-
-module _ (image : List ℕ) (m : Message) {number : ℕ} (e : number ≡ number_of m) where
-  pub message-listed : {c : Cursor} → number ≡ 0 → c ≡ start_of m → listed 0 image (walked image c.at c.end) ≡ of_message image m
-  unfolding of_message
-  message-listed z q =
-      simp (eq-eqb (number_of m) 0 (sym e ∙ z)) (ap (λ (d : Cursor). listed 0 image (walked image d.at d.end)) q)
-
-  pub message-refused : (number ≡ 0 → ⊥) → refused_line number ≡ of_message image m
-  unfolding of_message
-  message-refused z = simp (ne_eqb (number_of m) 0 (λ q. z (e ∙ q))) (ap refused_line e)
+use Rattle.blocks.specs.Read.{Read, read_of}
+use Rattle.listing.specs.Listing.{refused_line, of_message, listing_of, list_room, list_answer, list_after}
 
 pub too_long : (image : List ℕ) → 8192 < length image → refused_line 35 ≡ listing_of image
 unfolding listing_of
 too_long image h = simp (lt-ltb 8192 (length image) h)
 
-pub short-enough : (image : List ℕ) {m : Message} → length image ≤ 8192 → m ≡ read_of image → of_message image m ≡ listing_of image
+pub short-enough : (image : List ℕ) {m : Read} → length image ≤ 8192 → m ≡ read_of image → of_message image m ≡ listing_of image
 unfolding listing_of
 short-enough image h e = simp (le-ltb 8192 (length image) h) (ap (of_message image) e)
 

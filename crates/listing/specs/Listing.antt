@@ -12,11 +12,10 @@
 --   list_room                 == a buffer this long holds every listing: five bytes for each byte of an image, and a last line
 --   list_answer room image    == what `list` answers of a buffer of `room` bytes: the listing's length, or 0 where it is shorter than that
 --   list_after image out      == the buffer afterwards: the listing in front, or not a byte changed
-use Rattle.std.specs.Prelude.{List, [], ◌∷◌, ◌++◌, ℕ, ◌+◌, length, ltb, eqb}
+use Rattle.std.specs.Prelude.{List, [], ◌∷◌, ◌++◌, ℕ, ◌+◌, length, ltb, Ok, Err}
 use Rattle.slices.specs.Pick.{pick}
 use Rattle.slices.specs.Bytes.{splice}
-use Rattle.blocks.specs.declared.Message.{Message}
-use Rattle.blocks.specs.Read.{read_of, number_of}
+use Rattle.blocks.specs.Read.{Read, unread_number, read_of}
 use Rattle.records.specs.declared.Record.{Record}
 use Rattle.pieces.specs.Parts.{kind_of}
 use Rattle.walk.specs.Step.{start_of}
@@ -52,9 +51,9 @@ last_line k chunked = refused_line (ending_number chunked)
 unfoldable pub listed : ℕ → List ℕ → Walked → List ℕ
 listed k image w = record_lines k w.records image ++ last_line (k + length w.records) w.ending
 
-unfoldable pub of_message : List ℕ → Message → List ℕ
-of_message image m =
-    pick (eqb (number_of m) 0) (listed 0 image (walked image (start_of m).at (start_of m).end)) (refused_line (number_of m))
+abbrev pub of_message : List ℕ → Read → List ℕ
+of_message image (Ok m) = listed 0 image (walked image (start_of (Ok m)).at (start_of (Ok m)).end)
+of_message image (Err why) = refused_line (unread_number why)
 
 unfoldable pub listing_of : List ℕ → List ℕ
 listing_of image = pick (ltb 8192 (length image)) (refused_line 35) (of_message image (read_of image))

@@ -9,11 +9,11 @@ ghost use Rattle.walk.specs.Walked.{walked};
 ghost use Rattle.digits.specs.Text.{decimal};
 ghost use Rattle.listing.specs.Listing.{record_line, ok_line, refused_line, listed, of_message, list_answer, list_after};
 
-use blocks::Message;
+use blocks::Unread;
 use digits::{put_number, put_type};
 use records::Record;
 use slices::copy_to;
-use walk::Entry;
+use tlv::Span;
 
 // The longest image that is listed.
 pub const IMAGE: usize = 8_192;
@@ -21,10 +21,11 @@ pub const IMAGE: usize = 8_192;
 // A buffer this long holds every listing: five bytes for each byte of an image, and a last line.
 pub const ROOM: usize = 40_971;
 
+// By itself: the line's proof cites what it gives.
 fn flag(b: bool) -> usize
     ensures { result ≡ pick b 1 0 }
 {
-    if b { 1 } else { 0 }
+    usize::from(b)
 }
 
 // A record's number, format and last flag, each with the space after it.
@@ -66,7 +67,7 @@ fn put_refused(out: &mut [u8], at: usize, number: u8) -> usize
     put_number(out, a, number as usize, b'\n')
 }
 
-// The records from `start` to `end`, and the last line.
+// The records from `start` to `end`, and the last line. The walk ends by what it finds, and three numbers go on with it, so no iterator has them.
 fn put_records(out: &mut [u8], image: &[u8], start: usize, end: usize) -> usize
     requires { length (listed 0 image.now (walked image.now start end)) ≤ length out.old }
     ensures { Wrote out.old 0 (listed 0 image.now (walked image.now start end)) out.new result }
@@ -76,41 +77,37 @@ fn put_records(out: &mut [u8], image: &[u8], start: usize, end: usize) -> usize
     let mut count = 0;
     loop {
         let s = walking::step(image, at, end);
-        let entry = s.entry;
-        match entry {
-            Entry::Record(r) => {
+        let found = match s.entry {
+            Ok(found) => found,
+            Err(why) => return put_refused(out, to, why.into()),
+        };
+        match found {
+            Some(r) => {
                 to = put_record(out, to, count + 1, image, r);
                 at = s.next;
-                count = count + 1;
+                count += 1;
             }
-            Entry::End => {
-                return put_ok(out, to, count);
-            }
-            Entry::Truncated => {
-                return put_refused(out, to, 13);
-            }
-            Entry::Chunked => {
-                return put_refused(out, to, 14);
-            }
+            None => return put_ok(out, to, count),
         }
     }
 }
 
 // The lines of a message, or the one that says why there is none.
-fn put_message(out: &mut [u8], image: &[u8], m: Message) -> usize
+fn put_message(out: &mut [u8], image: &[u8], m: Result<Span, Unread>) -> usize
     requires { length (of_message image.now m) ≤ length out.old }
     ensures { Wrote out.old 0 (of_message image.now m) out.new result }
 {
-    let number = blocks::number(m);
-    if number == 0 {
-        let c = walk::start(m);
-        return put_records(out, image, c.at, c.end);
+    match m {
+        Ok(_) => {
+            let c = walk::start(m);
+            put_records(out, image, c.at, c.end)
+        }
+        Err(why) => put_refused(out, 0, why.into()),
     }
-    put_refused(out, 0, number)
 }
 
 // Everything that is printed of an image, at the front of `out`, and how long it is. A listing is never empty: 0 says that `out` is
-// shorter than ROOM, and then not a byte of it is changed.
+// shorter than ROOM, and then not a byte of it is changed: no Option, since that is what `list_answer` promises.
 pub fn list(out: &mut [u8], image: &[u8]) -> usize
     ensures value { result ≡ list_answer (length out.old) image.now }
     ensures out_after { out.new ≡ list_after image.now out.old }

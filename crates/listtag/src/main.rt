@@ -6,37 +6,30 @@ use listing::ROOM;
 use slices::front;
 use std::io::{Read, Result};
 
-// Reads the input to its end, or until `image` is full, and gives how many bytes it had.
+// Reads the input to its end, or until `image` is full, and gives how many bytes it had. How far a turn goes is the reader's to say, so no
+// range counts the turns.
 fn read_image<R: Read>(input: &mut R, image: &mut [u8]) -> Result<usize> {
     let mut have = 0;
     while have < image.len() {
         let n = input.read(&mut image[have..])?;
         if n == 0 {
-            return Ok(have);
+            break;
         }
         have += n;
     }
     Ok(have)
 }
 
-fn complain(rt: &impl Eprint, what: &str) -> Result<()> {
-    rt.eprint(what)
-}
-
-fn print(rt: &(impl Print + Eprint), out: &mut [u8], image: &[u8]) -> Result<()> {
-    let n = listing::list(out, image);
-    match rt.write_all(front(out, n)) {
-        Ok(()) => Ok(()),
-        Err(_) => complain(rt, "listtag: standard output took not all of the listing\n"),
-    }
-}
-
 // One byte more than an image may have is read, so that a longer one is seen to be too long.
 fn main(rt: HostRuntime) -> Result<()> {
     let mut image = [0u8; 8_193];
+    let Ok(n) = read_image(&mut rt.stdin(), &mut image) else {
+        return eprintln!(rt; "listtag: standard input could not be read");
+    };
     let mut out = [0u8; ROOM];
-    match read_image(&mut rt.stdin(), &mut image) {
-        Ok(n) => print(&rt, &mut out, front(&image, n)),
-        Err(_) => complain(&rt, "listtag: standard input could not be read\n"),
+    let end = listing::list(&mut out, front(&image, n));
+    if rt.write_all(front(&out, end)).is_err() {
+        return eprintln!(rt; "listtag: standard output took not all of the listing");
     }
+    Ok(())
 }

@@ -1,2 +1,3 @@
+pub mod Acks
 pub mod Waits
 pub mod Switches

@@ -4,6 +4,7 @@ use mathlib.Core.Bool.{Bool, true, false}
 use mathlib.Core.List.{List, [], ◌∷◌}
 use Prim.Native.Nat.{ℕ, zero, suc, ◌-◌}
 use native.Mathlib.Omega.{arith}
+use Rattle.std.specs.Prelude.{Ok, Some}
 use Rattle.slices.specs.Pick.{pick}
 use Rattle.protocol.specs.Transfer.{place}
 use Rattle.protocol.specs.Tag.{user, rf_mngt_dyn, rf_tries}
@@ -11,15 +12,14 @@ use Rattle.protocol.specs.Proc.{done, ask, ◌>>=◌, both}
 use Rattle.protocol.specs.Bus.{taken}
 use Rattle.protocol.specs.Rf.{tries}
 use Rattle.machine.specs.Ask.{meant, first}
-use Rattle.machine.specs.Switch.{switch_new, switch_ask, wanted, looked, try_after, switch_step, tried, look, resume_switch, after_switch}
+use Rattle.machine.specs.Switch.{switch_new, switch_ask, wanted, looked, try_after, switch_step, tried, look, resume_switch, after_switch, Switched}
 use Rattle.machine.specs.declared.switch.Switch.{Switch}
 use Rattle.machine.specs.declared.switch.Switch.TheVariants.{Flip, Clear, Look, Rest}
-use Rattle.machine.specs.declared.switch.Switched.TheVariants.{More}
 
 -- the code counts down by one
-pub try-after : (on : Bool) (n : ℕ) → (n ≡ 0 → ⊥) → More (Flip on (n - 1)) ≡ try_after on n
+pub try-after : (on : Bool) (n : ℕ) → (n ≡ 0 → ⊥) → ◌≡◌ {A = Switched} (Ok (Some (Flip on (n - 1)))) (try_after on n)
 try-after on zero h = absurd (h refl)
-try-after on (suc n) h = ap (λ (k : ℕ). More (Flip on k)) (omega arith)
+try-after on (suc n) h = ap (λ (k : ℕ). Ok (Some (Flip on k))) (omega arith)
 
 -- the switch was acknowledged, or not
 flip_case : (on : Bool) (n v : ℕ) (b : Bool)

@@ -1,3 +1,4 @@
+pub mod Ack
 pub mod Ask
 pub mod Wait
 pub mod Switch

@@ -2,6 +2,7 @@
 // names the transfer that it waits on, and `step` takes the reply to it. What is left of a loop (polls, tries) stands in the state.
 #![tactic(auto)]
 
+pub mod ack;
 pub mod ask;
 pub mod switch;
 pub mod wait;

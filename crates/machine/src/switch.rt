@@ -1,7 +1,10 @@
 // rf_off and rf_on: switch, look, and try again. The bool is whether RF is to be on, the number the tries left after this one. The code
 // stands in `flipping`.
 ghost use Rattle.std.specs.Prelude.{◌≡◌};
+ghost use Rattle.protocol.specs.declared.answer.TagError.TheVariants.{RfStuck};
 ghost use Rattle.machine.specs.Switch.{switch_new};
+
+use protocol::answer::TagError;
 
 #[derive(Clone, Copy)]
 pub enum Switch {
@@ -12,11 +15,16 @@ pub enum Switch {
     Rest(bool, u8),
 }
 
+// RF did not switch within the tries.
 #[derive(Clone, Copy)]
-pub enum Switched {
-    More(Switch),
-    Done,
-    Stuck,
+pub struct Stuck;
+
+impl From<Stuck> for TagError {
+    ghost from_gives = { λ _ e. e ≡ RfStuck };
+
+    fn from(_e: Stuck) -> TagError {
+        TagError::RfStuck
+    }
 }
 
 impl Switch {

@@ -3,18 +3,12 @@ ghost use Rattle.std.specs.Prelude.{◌≡◌};
 ghost use Rattle.machine.specs.Wait.{wait_new, wait_ask, wait_step};
 
 use crate::ask::Ask;
+use protocol::answer::{Progress, TagError};
 
 #[derive(Clone, Copy)]
 pub enum Wait {
     Poll(u8),
     Pause(u8),
-}
-
-#[derive(Clone, Copy)]
-pub enum Waited {
-    More(Wait),
-    Ready,
-    Busy,
 }
 
 impl Wait {
@@ -34,22 +28,22 @@ impl Wait {
         }
     }
 
-    pub fn step(self, ack: bool) -> Waited
+    pub fn step(self, ack: bool) -> Progress<Wait>
         ensures { result ≡ wait_step self ack }
     {
         match self {
             Wait::Poll(n) => {
                 if ack {
-                    Waited::Ready
+                    Ok(None)
                 } else {
-                    Waited::More(Wait::Pause(n))
+                    Ok(Some(Wait::Pause(n)))
                 }
             }
             Wait::Pause(n) => {
                 if n == 0 {
-                    Waited::Busy
+                    Err(TagError::Busy)
                 } else {
-                    Waited::More(Wait::Poll(n - 1))
+                    Ok(Some(Wait::Poll(n - 1)))
                 }
             }
         }

@@ -9,7 +9,7 @@ use decoding::decode;
 use session::session::Session;
 use settling::store;
 use state::bytes::STATE_LEN;
-use state::decode::Decoded;
+use telling::opening::Misuse;
 use telling::step::step;
 
 // A session whose mark is the smaller of `mark` and 8,192. Only a wrong length is refused.
@@ -20,16 +20,16 @@ pub fn new(state: &mut [u8], mark: usize) -> u64
         store(state, Session::new(mark));
         return step(0, 0, 0, 0);
     }
-    step(0, 34, 0, 0)
+    step(0, u8::from(Misuse::NoState), 0, 0)
 }
 
-fn dirty_of(d: Decoded) -> u64
+fn dirty_of(d: Option<Session>) -> u64
     requires { Inside d }
     ensures { result ≡ dirty_decoded d }
 {
     match d {
-        Decoded::State(s) => step(0, 0, 0, s.mark),
-        Decoded::Nothing => step(0, 34, 0, 0),
+        Some(s) => step(0, 0, 0, s.mark),
+        None => step(0, u8::from(Misuse::NoState), 0, 0),
     }
 }
 

@@ -1,65 +1,30 @@
--- The rule of the table, once for all its entries, and that every message is a C string.
+-- The numbers without a message, and that every message is a C string.
 --
---   listed, silent, at_end, none   == what `message_of` says of numbers below 36 that have a message or none, of 255, of any other
---   known                          == a table that is the list of entries has each number's entry
---   widened                        == an entry's bytes with more zeros after them
---   short                          == a message has fewer than 32 bytes, so that a zero follows it
---   printable                      == and all its bytes are printable ASCII, so that its length is the string's
+--   silent, none   == what `message_of` says of numbers below 36 that have none, of any other that has none
+--   short          == a message has fewer than 32 bytes, so that a zero follows it
+--   printable      == and all its bytes are printable ASCII, so that its length is the string's
 use mathlib.Core.Path.{◌≡◌, refl, ap, sym, ◌∙◌}
-use mathlib.Core.List.{List, [], ◌∷◌, ◌++◌, map, append_assoc}
+use mathlib.Core.List.{List, [], ◌∷◌}
 use mathlib.Core.Bool.{Bool, true, false}
 use Prim.Native.Nat.{ℕ, zero, suc, ◌+◌, ◌-◌, ◌<◌, ◌≤◌}
 use native.Mathlib.Omega.{arith}
-use borrow.Author.Tests.{eq-eqb, ne_eqb, ltb-true}
-use lib.ListN.{length, get_or, take, drop, replicate, length-append, length-replicate, replicate-append-replicate, get_or-replicate, get_or-eq_default}
+use borrow.Author.Tests.{ne_eqb, ltb-true}
+use lib.ListN.{length, get_or, take, drop, replicate, get_or-replicate, get_or-eq_default}
 use lib.Seq.{get_or-take, get_or-drop}
 use lib.Dec.{ltb, eqb}
 use Rattle.slices.specs.Pick.{pick}
-use Rattle.slices.specs.Bytes.{splice}
 use Rattle.slices.proofs.Cases.{pick_cases}
-use Rattle.slices.proofs.Splice.{splice_front}
 use Rattle.slices.proofs.Truths.{pick_true}
 use Rattle.uri.specs.Prefixes.{ascii}
-use Rattle.uri.proofs.Table.{map_at}
-use Rattle.messages.specs.declared.Line.{Line}
-use Rattle.messages.specs.Messages.{messages, message_of, padded, told, lines, entry}
-
--- the same stretch of two lists: what stands in it is the same
-window : (l m : List (List ℕ)) (a b k j : ℕ) → take k (drop a l) ≡ take k (drop b m) → j < k → get_or l (a + j) [] ≡ get_or m (b + j) []
-window l m a b k j e h =
-    sym (get_or-drop a l j [])
-    ∙ sym (get_or-take k (drop a l) j [] h)
-    ∙ ap (λ (x : List (List ℕ)). get_or x j []) e
-    ∙ get_or-take k (drop b m) j [] h
-    ∙ get_or-drop b m j []
-
--- one more, empty: no place tells the difference
-tail : (l : List (List ℕ)) (s : ℕ) → get_or (l ++ ([] ∷ [])) s [] ≡ get_or l s []
-tail [] zero = refl
-tail [] (suc s) = refl
-tail (x ∷ l) zero = refl
-tail (x ∷ l) (suc s) = tail l s
+use Rattle.messages.specs.Messages.{messages, message_of}
 
 module _ (n : ℕ) where
   below : (n ≡ 255 → ⊥) → message_of n ≡ get_or messages n []
   unfolding message_of
   below d = simp (ne_eqb n 255 d)
 
-  -- k numbers from a on, which the table keeps from b on
-  pub listed : (a b k : ℕ) → take k (drop a messages) ≡ take k (drop b lines) → a ≤ n → n < a + k → a + k ≤ 36 → (s : ℕ)
-      → b + (n - a) ≡ s → message_of n ≡ get_or lines s []
-  listed a b k e h g f s p =
-      let i : n ≡ a + (n - a) = omega arith in
-      let d : n ≡ 255 → ⊥ = λ q. omega arith in
-      below d ∙ ap (λ (m : ℕ). get_or messages m []) i ∙ window messages lines a b k (n - a) e (omega arith) ∙ ap (λ (m : ℕ). get_or lines m []) p
-
-  pub at_end : n ≡ 255 → message_of n ≡ get_or lines 21 []
-  unfolding message_of messages lines told ascii
-  at_end h = simp (eq-eqb n 255 h)
-
   -- k numbers from a on that have none
-  pub silent : (a k : ℕ) → take k (drop a messages) ≡ replicate k [] → a ≤ n → n < a + k → a + k ≤ 36 → message_of n ≡ get_or lines 22 []
-  unfolding messages lines told ascii
+  pub silent : (a k : ℕ) → take k (drop a messages) ≡ replicate k [] → a ≤ n → n < a + k → a + k ≤ 36 → message_of n ≡ []
   silent a k e h g f =
       let i : n ≡ a + (n - a) = omega arith in
       let d : n ≡ 255 → ⊥ = λ q. omega arith in
@@ -70,27 +35,9 @@ module _ (n : ℕ) where
       ∙ ap (λ (x : List (List ℕ)). get_or x (n - a) []) e
       ∙ get_or-replicate k (n - a) [] [] (omega arith)
 
-  pub none : 36 ≤ n → (n ≡ 255 → ⊥) → message_of n ≡ get_or lines 22 []
-  unfolding message_of messages lines told ascii
+  pub none : 36 ≤ n → (n ≡ 255 → ⊥) → message_of n ≡ []
+  unfolding message_of messages
   none h d = simp (ne_eqb n 255 d) (get_or-eq_default messages [] h)
-
-  pub known : (table : List Line) (d : Line) → table ≡ map entry (lines ++ ([] ∷ [])) → {s : ℕ} → s ≤ 22 → message_of n ≡ get_or lines s [] → get_or table s d ≡ entry (message_of n)
-  unfolding messages lines told ascii
-  known table d e {s} h m =
-      ap (λ (l : List Line). get_or l s d) e
-      ∙ map_at entry (lines ++ ([] ∷ [])) s [] d (omega arith)
-      ∙ ap entry (tail lines s ∙ sym m)
-
--- as the table keeps it, with more zeros
-pub widened : (m : List ℕ) → length m ≤ 32 → splice (replicate 64 0) 0 (padded 32 m) ≡ padded 64 m
-unfolding padded
-widened m h =
-    let l : length (padded 32 m) ≡ 32 = length-append m (replicate (32 - length m) 0) ∙ ap (λ (k : ℕ). length m + k) (length-replicate (32 - length m) 0) ∙ omega arith in
-    let z : 32 - length m + 32 ≡ 64 - length m = omega arith in
-    splice_front (replicate 64 0) (padded 32 m)
-    ∙ ap (λ (k : ℕ). padded 32 m ++ drop k (replicate 64 0)) l
-    ∙ append_assoc m (replicate (32 - length m) 0) (replicate 32 0)
-    ∙ ap (λ (z : List ℕ). m ++ z) (replicate-append-replicate (32 - length m) 32 0 ∙ ap (λ (k : ℕ). replicate k 0) z)
 
 -- a test holds of all elements of a list
 every : {A : Type 0} → (A → Bool) → List A → Bool

@@ -4,13 +4,9 @@
 --   messages       == the messages of 0 to 35; a number that document 01 does not have has none
 --   message_of n    == the message of the number n; 255 is the end of a walk
 --   padded n m     == the message m with zeros after it, up to n bytes: C gets 64
---   told l         == those of the messages l that have a byte
---   lines          == every message there is, by its number: what the table keeps
---   entry m        == the message m as the table keeps it
 use Rattle.std.specs.Prelude.{List, [], ◌∷◌, ◌++◌, ℕ, ◌-◌, length, get_or, replicate, eqb}
 use Rattle.slices.specs.Pick.{pick}
 use Rattle.uri.specs.Prefixes.{ascii}
-use Rattle.messages.specs.declared.Line.{Line}
 
 unfoldable pub messages : List (List ℕ)
 messages =
@@ -57,14 +53,3 @@ message_of n = pick (eqb n 255) (ascii "no more records") (get_or messages n [])
 
 unfoldable pub padded : ℕ → List ℕ → List ℕ
 padded n m = m ++ replicate (n - length m) 0
-
-unfoldable pub told : List (List ℕ) → List (List ℕ)
-told [] = []
-told ([] ∷ l) = told l
-told ((b ∷ m) ∷ l) = (b ∷ m) ∷ told l
-
-unfoldable pub lines : List (List ℕ)
-lines = told messages ++ (ascii "no more records" ∷ [])
-
-abbrev pub entry : List ℕ → Line
-entry m = record { len = length m; text = padded 32 m }

@@ -6,7 +6,7 @@ ghost use Rattle.numbers.specs.Flat.{scrub_code, scrub_place};
 ghost use Rattle.numbers.specs.From.{scrub_from, whole_from};
 ghost use Rattle.state.specs.Bytes.{same_code, same_place, same_stage};
 
-use agreeing::{nowhere, same_code, same_place};
+use agreeing::nowhere;
 use flattening::{code, scrub_code, scrub_place, setup_code, switch_code};
 use numbers::flat::{Code, Place};
 use restoring::{scrub_from, setup_from, switch_from};
@@ -15,24 +15,18 @@ pub fn scrub_own(which: u8, c: Code, p: Place) -> bool
     ensures { result ≡ (same_code (scrub_code which (scrub_from c p)) c && same_place (scrub_place (scrub_from c p)) p) }
 {
     let s = scrub_from(c, p);
-    same_code(scrub_code(which, s), c) & same_place(scrub_place(s), p)
+    (scrub_code(which, s) == c) & (scrub_place(s) == p)
 }
 
 // Stages 8 to 13.
 pub fn whole_own(tag: u8, c: Code, p: Place) -> bool
     ensures { result ≡ same_stage (whole_from tag c p) tag c p }
 {
-    if tag == 9 {
-        return nowhere(switch_code(switch_from(c)), c, p);
+    match tag {
+        8 | 10 | 11 => nowhere(code(0, 0, 0, 0), c, p),
+        9 => nowhere(switch_code(switch_from(c)), c, p),
+        12 => scrub_own(0, c, p),
+        13 => nowhere(setup_code(setup_from(c)), c, p),
+        _ => false,
     }
-    if tag == 12 {
-        return scrub_own(0, c, p);
-    }
-    if tag == 13 {
-        return nowhere(setup_code(setup_from(c)), c, p);
-    }
-    if (tag == 8) | (tag == 10) | (tag == 11) {
-        return nowhere(code(0, 0, 0, 0), c, p);
-    }
-    false
 }

@@ -7,16 +7,21 @@ ghost use Rattle.judging.specs.Judge.{answer, after};
 ghost use Rattle.mime.specs.Mime.{mime_verdict};
 
 use joins::put_image;
-use judging::{Built, judge};
-use layout::refusal::Verdict;
+use judging::judge;
+use layout::refusal::Refusal;
 
 // The image of a payload with a MIME type. The payload is bytes, whatever they are.
-pub fn mime_image(out: &mut [u8], area: usize, mime: &[u8], payload: &[u8]) -> Built
+// It is no instance of one function with the other two images: its check knows nothing of UTF-8, and its type name is the caller's.
+#[tactic(auto, using(judging::proofs::Judged::building))]
+pub fn mime_image(
+    out: &mut [u8],
+    area: usize,
+    mime: &[u8],
+    payload: &[u8],
+) -> Result<usize, Refusal>
     ensures value { result ≡ answer (mime_verdict (length out.old) area mime.now payload.now) (mime_image area mime.now payload.now) }
     ensures out_after { out.new ≡ after (mime_verdict (length out.old) area mime.now payload.now) (mime_image area mime.now payload.now) out.old }
 {
-    match judge(out.len(), area, mime.len(), payload.len()) {
-        Verdict::Not(why) => Built::Refused(why),
-        Verdict::Fits => Built::At(put_image(out, area, 2, mime, b"", payload)),
-    }
+    judge(out.len(), area, mime.len(), payload.len())?;
+    Ok(put_image(out, area, 2, mime, b"", payload))
 }

@@ -17,7 +17,7 @@ fn bare(c: Code, p: Place) -> bool
 }
 
 // The chunk is read, or read again.
-fn by_chunk(f: Flat, reply: &[u8]) -> Onward
+fn by_chunk(f: Flat, reply: &[u8]) -> Option<Onward>
     requires { (f.mark ≤ 8192) × (64 ≤ length reply.now) }
     ensures { Moves f reply.now result }
 {
@@ -31,11 +31,11 @@ fn by_chunk(f: Flat, reply: &[u8]) -> Onward
             return after_reread(f.mark, f.rows, chunk_from(p), reply);
         }
     }
-    Onward::Not
+    None
 }
 
 // A row is programmed, or waited for.
-fn by_row(f: Flat) -> Onward
+fn by_row(f: Flat) -> Option<Onward>
     requires { f.mark ≤ 8192 }
     ensures { AnyMoves f result }
 {
@@ -49,11 +49,11 @@ fn by_row(f: Flat) -> Onward
             return after_poll(f.mark, f.rows, chunk_from(p), rows_from(p), c.count);
         }
     }
-    Onward::Not
+    None
 }
 
 // By what the wipe waits on.
-pub fn moves(f: Flat, reply: &[u8]) -> Onward
+pub fn moves(f: Flat, reply: &[u8]) -> Option<Onward>
     requires { (f.mark ≤ 8192) × (64 ≤ length reply.now) }
     ensures { Moves f reply.now result }
 {

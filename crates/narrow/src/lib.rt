@@ -31,15 +31,13 @@ fn is_narrow(s: &[u8], i: usize, n: usize) -> bool
     ensures { result ≡ true → Skips s.now i (i + n + pick (later (get_or s.now (i + n) 0)) 1 0) }
 {
     let mut ok = !later(s[i]);
-    let mut k = 0;
-    while k < n {
+    for k in 0..n {
         ok = ok & beside(s[i + k], s[i + k + 1]);
-        k += 1;
     }
     ok
 }
 
-// Past the blocks of `n` bytes from `from` on.
+// Past the blocks of `n` bytes from `from` on. The place is no count: a block may end one byte further on.
 pub fn past_narrow(s: &[u8], from: usize, n: usize) -> usize
     requires from_in_bounds { from ≤ length s.now }
     requires n_nonzero { 0 < n }

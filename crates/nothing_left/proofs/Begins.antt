@@ -6,6 +6,7 @@ use Prim.Native.Nat.{ℕ}
 use native.Mathlib.Omega.{arith}
 use lib.ListN.{length}
 use borrow.Author.Tests.{ne_eqb}
+use Rattle.std.specs.Prelude.{Ok}
 use Rattle.protocol.specs.Mark.{Mark, none, whole, is_none}
 use Rattle.protocol.specs.Proc.{Proc, done, ◌>>=◌, Res, ok}
 use Rattle.protocol.specs.Setup.{prepare}
@@ -69,10 +70,10 @@ begins c g o μ R p i z =
     (λ x₁ N k₁ w u₁. cleaned_wipe whole x₁ N k₁ (emptied whole M N l (covered_whole M l) w) u₁) x k u) q j y)) c g o p i z)
 
 -- what always holds at the end of a call, as its host sees it
-pub clean_run : (c : Call) (m : Mark) (p : Part) → always Phone (tree_of c m) (λ a n S x. Cleaned Done a n x) m [] p → (w : Moments) → Clean (run c m p w)
+pub clean_run : (c : Call) (m : Mark) (p : Part) → always Phone (tree_of c m) (λ a n S x. Cleaned (Ok Done) a n x) m [] p → (w : Moments) → Clean (run c m p w)
 unfolding run_by
 clean_run c m p h w =
-    let k = phones-run (tree_of c m) (λ a n S x. Cleaned Done a n x) m [] p w h in
+    let k = phones-run (tree_of c m) (λ a n S x. Cleaned (Ok Done) a n x) m [] p w h in
     let e = runs.seen (tree_of c m) m nothing (replies (tree_of c m) p w) in
     record {
       answer = ap (λ x. x.answer) e ∙ k.answer;
@@ -84,7 +85,7 @@ clean_run c m p h w =
 
 -- a call that answers Ok(()) is done
 pub plainly_clean : (q : Proc (Res Unit)) (m : Mark) (R : List ℕ) (p : Part) → always Phone q (λ a n S x. Cleaned (ok tt) a n x) m R p
-    → always Phone (q >>= (λ r. done (plain r))) (λ a n S x. Cleaned Done a n x) m R p
+    → always Phone (q >>= (λ r. done (plain r))) (λ a n S x. Cleaned (Ok Done) a n x) m R p
 plainly_clean q m R p h =
     always_bind Phone q _ _ m R p
     (always_mono Phone q _ _ (λ a n S x k. always_done Phone (plain a) _ n S x

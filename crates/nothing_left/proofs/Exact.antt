@@ -8,6 +8,7 @@ use native.Mathlib.Omega.{arith}
 use native.Mathlib.Nat.{zero-add}
 use lib.ListN.{length}
 use borrow.Author.Tests.{eqb-false}
+use Rattle.std.specs.Prelude.{Result, Ok}
 use Rattle.slices.specs.Pick.{pick}
 use Rattle.protocol.specs.Transfer.{sent, is_row, place_of}
 use Rattle.protocol.specs.Tag.{user, user_memory}
@@ -17,6 +18,7 @@ use Rattle.protocol.specs.Call.{scrub}
 use Rattle.protocol.specs.Scrub as s
 use Rattle.protocol.specs.Calls.{plain}
 use Rattle.protocol.specs.Trace.{Exchange, trace, rows_in, nothing}
+use Rattle.protocol.specs.declared.answer.TagError.{TagError}
 use Rattle.protocol.specs.declared.answer.Answer.{Answer}
 use Rattle.protocol.specs.declared.answer.Answer.TheVariants.{Done}
 use Rattle.protocol.proofs.Runs as runs
@@ -52,8 +54,8 @@ record Swept (m : Mark) (p : Part) (n : Mark) (R : List ℕ) (x : Part) : Type 0
   rows : R ≡ onto (non_zero_rows (wipe_end m / 16) 0 p.memory) []
   wiped : Wiped 0 (wipe_end m) p.memory x.memory
 
-abbrev Sweeps : Mark → Part → Answer → Mark → List ℕ → Part → Type 0
-Sweeps m p a n R x = (a ≡ Done) × Swept m p n R x
+abbrev Sweeps : Mark → Part → Result Answer TagError → Mark → List ℕ → Part → Type 0
+Sweeps m p a n R x = (a ≡ Ok Done) × Swept m p n R x
 
 pub wipe_exact : (p : Part) → length p.memory ≡ 8192 → rf_on p.registers ≡ false → p.registers.busy ≡ 0 → (m : Mark) (w : Moments) → Exact m p (run scrub m p w)
 unfolding run_by s.scrub
@@ -61,7 +63,7 @@ wipe_exact p size off idle m w =
     let h : always Phone (tree_of scrub m) (Sweeps m p) m [] p =
     always_bind Phone (s.scrub m) (λ r. done (plain r)) (Sweeps m p) m [] p
     (wipes Phone Mute mute_room (λ a n R x. always Phone (done (plain a)) (Sweeps m p) n R x) m m [] p.memory size
-    (λ x N i v u. always_done Phone Done (Sweeps m p) none _ x
+    (λ x N i v u. always_done Phone (Ok Done) (Sweeps m p) none _ x
     (refl, record { mark = refl; rows = refl; wiped = rw i.memory v }))
     p (record { off = eqb-false p.registers.rf 0 off; memory = refl }) idle) in
     let k = phones-run (tree_of scrub m) (Sweeps m p) m [] p w h in

@@ -12,6 +12,7 @@ use mathlib.Core.List.{List, [], ◌∷◌}
 use Prim.Native.Nat.{ℕ, zero, suc, min}
 use native.Mathlib.Omega.{arith}
 use lib.ListN.{length, replicate, length-replicate}
+use Rattle.std.specs.Prelude.{Result, Ok}
 use Rattle.protocol.specs.Mark.{Mark, none, whole, is_none}
 use Rattle.protocol.specs.Proc.{done}
 use Rattle.protocol.specs.Rf.{rf_off}
@@ -19,6 +20,7 @@ use Rattle.protocol.specs.Scrub.{scrub}
 use Rattle.protocol.specs.Call as call
 use Rattle.protocol.specs.Calls.{begin, plain, plainly, call_of}
 use Rattle.protocol.specs.Trace.{nothing, answer_of, mark_of}
+use Rattle.protocol.specs.declared.answer.TagError.{TagError}
 use Rattle.protocol.specs.declared.answer.Answer.{Answer}
 use Rattle.protocol.specs.declared.answer.Answer.TheVariants.{Done}
 use Rattle.protocol.proofs.Runs as runs
@@ -91,10 +93,10 @@ standing g v b = record {
     kept : (M : List ℕ) (p q : Part) → Still p q → Stands g v b M p → Stands g v b M q
     kept M p q same i = i
 
-pub record Blank (g : ℕ) (a : Answer) (n : Mark) (x : Part) : Type 0 where
+pub record Blank (g : ℕ) (a : Result Answer TagError) (n : Mark) (x : Part) : Type 0 where
   pub memory : List ℕ
   pub cycle : Cycle
-  pub answer : a ≡ Done
+  pub answer : a ≡ Ok Done
   pub mark : n ≡ none
   pub is : x ≡ held g 4 false 0 cycle memory
   pub empty : Empty memory
@@ -108,7 +110,7 @@ swept g M l =
     always_run Still (plainly (scrub whole)) (λ a n S x. Blank g a n x) whole [] (held g 4 false 0 Nothing M) calm (λ n x. same)
     (always_bind Still (scrub whole) (λ r. done (plain r)) (λ a n S x. Blank g a n x) whole [] (held g 4 false 0 Nothing M)
     (wipes Still (Stands g 4 false) (standing g 4 false) (λ a n S x. always Still (done (plain a)) (λ b j T y. Blank g b j y) n S x) whole whole [] M l
-    (λ x N i v u. always_done Still Done (λ b j T y. Blank g b j y) none _ x (record {
+    (λ x N i v u. always_done Still (Ok Done) (λ b j T y. Blank g b j y) none _ x (record {
       memory = N;
       cycle = i.cycle;
       answer = refl;

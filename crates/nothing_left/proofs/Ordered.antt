@@ -5,6 +5,7 @@ use mathlib.Core.Path.{◌≡◌, refl, subst, sym}
 use mathlib.Core.Bool.{true}
 use mathlib.Core.List.{List, []}
 use Prim.Native.Nat.{ℕ}
+use Rattle.std.specs.Prelude.{Result, Ok}
 use Rattle.slices.proofs.Truths.{never}
 use Rattle.protocol.specs.Mark.{Mark, whole}
 use Rattle.protocol.specs.Tag.{ready_polls}
@@ -18,6 +19,7 @@ use Rattle.protocol.specs.Call.{Call, identify, prepare, wait_ready, read_user, 
 use Rattle.protocol.specs.Calls as calls
 use Rattle.protocol.specs.Calls.{plain, plainly}
 use Rattle.protocol.specs.Trace.{nothing}
+use Rattle.protocol.specs.declared.answer.TagError.{TagError}
 use Rattle.protocol.specs.declared.answer.Answer.{Answer}
 use Rattle.protocol.specs.declared.answer.Answer.TheVariants.{Done, Wrote}
 use Rattle.protocol.proofs.Runs as runs
@@ -65,19 +67,19 @@ cleaned_safe : {A : Type 0} (good a : A) (n : Mark) (x : Part) → Cleaned good 
 cleaned_safe good a n x c =
     record { memory = x.memory; here = c.off; len = c.empty.size; covered = covered_empty n x.memory c.empty; idle = c.idle }
 
-ended_quiet : (f : Phase) (a : Answer) (n : Mark) (x : Part) → a ≡ Done → Safe Off n x → Holds (later f finish a) n x
-ended_quiet f a n x e s = subst (λ (b : Answer). Holds (later f finish b) n x) (sym e) s
+ended_quiet : (f : Phase) (a : Result Answer TagError) (n : Mark) (x : Part) → a ≡ Ok Done → Safe Off n x → Holds (later f finish a) n x
+ended_quiet f a n x e s = subst (λ (b : Result Answer TagError). Holds (later f finish b) n x) (sym e) s
 
 step-finish : (f : Phase) (m : Mark) (p : Part) → Kept m p → always Phone (tree_of finish m) (λ a n S x. Holds (later f finish a) n x) m [] p
 unfolding calls.closing calls.finish
 step-finish f m p k =
-    always_mono Phone (tree_of finish m) (λ a n S x. Cleaned Done a n x) (λ a n S x. Holds (later f finish a) n x)
-    (λ a n S x c. ended_quiet f a n x c.answer (cleaned_safe Done a n x c)) m [] p
+    always_mono Phone (tree_of finish m) (λ a n S x. Cleaned (Ok Done) a n x) (λ a n S x. Holds (later f finish a) n x)
+    (λ a n S x c. ended_quiet f a n x c.answer (cleaned_safe (Ok Done) a n x c)) m [] p
     (plainly_clean (calls.finish m) m [] p (finishes m [] p k))
 
 looked_holds : (f : Phase) (k : ℕ) (a : Res Unit) (n : Mark) (S : List ℕ) (x : Part) → Looked (Holds f) a n x
     → always Phone (done (plain a)) (λ b j T y. Holds (later f (read_whole k) b) j y) n S x
-looked_holds f k a n S x (whole-read h) = always_done Phone Done (λ b j T y. Holds (later f (read_whole k) b) j y) n S x h
+looked_holds f k a n S x (whole-read h) = always_done Phone (Ok Done) (λ b j T y. Holds (later f (read_whole k) b) j y) n S x h
 looked_holds f k a n S x (refused h) = always_done Phone _ (λ b j T y. Holds (later f (read_whole k) b) j y) n S x h
 
 step-read : (f : Phase) (k : ℕ) (m : Mark) (p : Part) → Holds f m p → always Phone (tree_of (read_whole k) m) (λ a n S x. Holds (later f (read_whole k) a) n x) m [] p
@@ -101,8 +103,8 @@ step f m p (read_whole n) e h = step-read f n m p h
 step f m p scrub e h = same_phase f (s.scrub m) (tame_scrub m) m (safe_scrub Phone Off off_world m []) (safe_scrub Still Ready ready_world m []) p h
 step f m p finish e h = step-finish f m p (holds_kept f m p h)
 step quiet m p rf_wrote e h =
-    always_bind Phone rf.rf_wrote (λ b. done (Wrote b)) (λ a n S x. Safe Off n x) m [] p
-    (always_mono Phone rf.rf_wrote (λ a n S x. Safe Off n x) _ (λ a n S x k. always_done Phone (Wrote a) (λ b j T y. Safe Off j y) n S x k) m [] p
+    always_bind Phone rf.rf_wrote (λ b. done (Ok (Wrote b))) (λ a n S x. Safe Off n x) m [] p
+    (always_mono Phone rf.rf_wrote (λ a n S x. Safe Off n x) _ (λ a n S x k. always_done Phone (Ok (Wrote a)) (λ b j T y. Safe Off j y) n S x k) m [] p
     (asks_safely m [] p h))
 step quiet m p begin e h = plainly_any (calls.begin m) (Safe Off) m p (begins_safely m [] p h)
 step quiet m p go_live e h = plainly_any calls.go_live Kept m p (goes_live m [] p h)
@@ -111,7 +113,7 @@ step live m p begin e h = never e
 step live m p go_live e h = never e
 
 -- what always holds at the end of a call, as its host sees it
-ran : (c : Call) (m : Mark) (p : Part) (Q : Answer → Mark → Part → Type 0) → always Phone (tree_of c m) (λ a n S x. Q a n x) m [] p → (t : Moments)
+ran : (c : Call) (m : Mark) (p : Part) (Q : Result Answer TagError → Mark → Part → Type 0) → always Phone (tree_of c m) (λ a n S x. Q a n x) m [] p → (t : Moments)
     → Q (run c m p t).end.answer (run c m p t).end.mark (run c m p t).part
 unfolding run_by
 ran c m p Q h t =
@@ -124,7 +126,7 @@ unfolding calls.begin
 session_holds f m p (first {p = q} u t) =
     let i = powered-up q u in
     ran begin whole q (λ a n x. Safe Off n x)
-    (always_mono Phone (tree_of begin whole) (λ a n S x. Cleaned Done a n x) (λ a n S x. Safe Off n x) (λ a n S x c. cleaned_safe Done a n x c) whole [] q
+    (always_mono Phone (tree_of begin whole) (λ a n S x. Cleaned (Ok Done) a n x) (λ a n S x. Safe Off n x) (λ a n S x c. cleaned_safe (Ok Done) a n x c) whole [] q
     (plainly_clean (calls.begin whole) whole [] q
     (begins q.registers.cfg q.registers.gpo1 q.registers.session whole [] q
     (record { cfg = refl; gpo = refl; session = refl; len = i.0.len; named = i.0.named }) i.1))) t

@@ -5,7 +5,7 @@
 --   non_zero_rows n at bs     == the places of those of the n rows from `at` that are not zero
 --   Exact m p o             == a wipe of the part p with the mark at m came to o: exactly the non-zero rows below the rounded mark were
 --                              programmed, from the first to the last, and reported; the bytes below it are zero, the others as before
-use Rattle.std.specs.Prelude.{◌≡◌, ◌&&◌, List, [], ◌∷◌, ◌++◌, ℕ, zero, suc, ◌+◌, ◌/◌, ◌≤◌, ◌<◌, length, get_or, take, drop}
+use Rattle.std.specs.Prelude.{◌≡◌, ◌&&◌, List, [], ◌∷◌, ◌++◌, ℕ, zero, suc, ◌+◌, ◌/◌, ◌≤◌, ◌<◌, length, get_or, take, drop, Ok}
 use Rattle.scan.specs.Rows.{row}
 use Rattle.scan.specs.Zeros.{blank}
 use Rattle.protocol.specs.Transfer.{sent, is_row, place_of}
@@ -29,7 +29,7 @@ non_zero_rows zero at bs = []
 non_zero_rows (suc n) at bs = (when blank (take row (drop at bs)) then [] else at ∷ []) ++ non_zero_rows n (at + row) bs
 
 pub record Exact (m : Mark) (p : Part) (o : Outcome) : Type 0 where
-  pub answer : o.end.answer ≡ Done
+  pub answer : o.end.answer ≡ Ok Done
   pub mark : o.end.mark ≡ none
   pub rows : programmed o.passed ≡ non_zero_rows (wipe_end m / row) 0 p.memory
   pub report : o.end.report.rows ≡ length (non_zero_rows (wipe_end m / row) 0 p.memory)

@@ -14,7 +14,7 @@
 --   run c m p w         == the same of the program that the theorems are about
 --   Empty bs            == 8,192 bytes, each of them zero
 --   Clean o             == Ok, RF off, nothing may be non-zero, all bytes zero, no cycle running
-use Rattle.std.specs.Prelude.{◌≡◌, false, List, [], ℕ, zero, suc, length, get_or}
+use Rattle.std.specs.Prelude.{◌≡◌, false, List, [], ℕ, zero, suc, length, get_or, Ok}
 use Rattle.protocol.specs.Transfer.{Reply}
 use Rattle.protocol.specs.Tag.{user_memory}
 use Rattle.protocol.specs.Mark.{Mark, none}
@@ -89,7 +89,7 @@ pub record Empty (bs : List ℕ) : Type 0 where
   pub zero : (i : ℕ) → get_or bs i 0 ≡ 0
 
 pub record Clean (o : Outcome) : Type 0 where
-  pub answer : o.end.answer ≡ Done
+  pub answer : o.end.answer ≡ Ok Done
   pub mark : o.end.mark ≡ none
   pub silent : rf_on o.part.registers ≡ false
   pub empty : Empty o.part.memory

@@ -9,11 +9,12 @@
 --                           calls in this order and phones between them. The phase is f, the mark m, the part p
 --   Session f m p        == the same with the calls that the theorems are about
 --   Covered m bs         == every byte that is not zero lies where the mark m says that one may
-use Rattle.std.specs.Prelude.{◌≡◌, Bool, true, false, List, ℕ, get_or}
+use Rattle.std.specs.Prelude.{◌≡◌, Bool, true, false, List, ℕ, get_or, Result, Ok, Err}
 use Rattle.protocol.specs.Mark.{Mark, Covers, whole}
 use Rattle.protocol.specs.Call.{Call, identify, prepare, wait_ready, read_user, write, rf_off, rf_on, rf_wrote, read_whole, scrub, begin, go_live, finish}
+use Rattle.protocol.specs.declared.answer.TagError.{TagError}
 use Rattle.protocol.specs.declared.answer.Answer.{Answer}
-use Rattle.protocol.specs.declared.answer.Answer.TheVariants.{Done, Wrote, Not}
+use Rattle.protocol.specs.declared.answer.Answer.TheVariants.{Done, Wrote}
 use Rattle.part.specs.Part.{Part}
 use Rattle.part.specs.Power.{Visit, visited}
 use Rattle.nothing_left.specs.Programs.{Program}
@@ -44,12 +45,12 @@ allowed quiet c = true
 allowed live c = calm c
 
 -- the phase f, or `quiet` after an Ok
-abbrev pub ended : Phase → Answer → Phase
-ended f Done = quiet
-ended f (Wrote b) = f
-ended f (Not e) = f
+abbrev pub ended : Phase → Result Answer TagError → Phase
+ended f (Ok Done) = quiet
+ended f (Ok (Wrote b)) = f
+ended f (Err e) = f
 
-abbrev pub later : Phase → Call → Answer → Phase
+abbrev pub later : Phase → Call → Result Answer TagError → Phase
 later f identify a = f
 later f prepare a = f
 later f wait_ready a = f

@@ -16,7 +16,7 @@
 --   write_forgets           == `write`: the mark does not move
 --   reads_early             == `read_whole`: the read first, then RF off and the status
 -- A `write` that raises the mark only after its rows is refused in crate `calling` (mark_after_rows): the claims look between two calls.
-use Rattle.std.specs.Prelude.{ℕ, min, List, true, eqb, length}
+use Rattle.std.specs.Prelude.{ℕ, min, List, true, eqb, length, Err}
 use Rattle.scan.specs.Rows.{row_count}
 use Rattle.protocol.specs.Tag.{user_memory, user, system, i2c_cfg, chunk}
 use Rattle.protocol.specs.Mark.{Mark, none, whole, found, is_none, wipe_end}
@@ -29,7 +29,6 @@ use Rattle.protocol.specs.Scrub.{scrub_chunk, scrub_to, scrub}
 use Rattle.protocol.specs.Call as call
 use Rattle.protocol.specs.Calls.{read_whole, begin, go_live, first_of, closing, finish, plainly, call_of}
 use Rattle.protocol.specs.declared.answer.TagError.TheVariants.{NotTaken, Refused}
-use Rattle.protocol.specs.declared.answer.Answer.TheVariants.{Not}
 use Rattle.nothing_left.specs.Programs.{Program}
 
 abbrev pub calls_by : Proc (Res Unit) → (Mark → ℕ → List ℕ → Proc (Res Unit)) → (Mark → ℕ → Proc (Res Unit)) → (Mark → Proc (Res Unit))
@@ -60,7 +59,7 @@ wiping prep wipe =
     (λ m. rf_off >>= λ off. rf_wrote >>= λ wrote. when wrote then mark whole (closing_by wipe whole off) else closing_by wipe m off)
 
 abbrev pub refuses_everything : Program
-refuses_everything c m = done (Not Refused)
+refuses_everything c m = done (Err Refused)
 
 abbrev pub wipes_nothing : Program
 wipes_nothing = wiping prepare (λ m. mark none fine)

@@ -34,11 +34,12 @@ fn moved(f: Flat, rows: usize, s: Scrub) -> Flat
     }
 }
 
-pub fn noted(f: Flat, o: Onward) -> Next
+pub fn noted(f: Flat, o: Option<Onward>) -> Option<Next>
     ensures { result ≡ noted f o }
 {
-    match o {
-        Onward::To(n, s) => Next::To(moved(f, n, s), s),
-        Onward::Not => Next::Not,
-    }
+    let Onward { rows, wipe } = o?;
+    Some(Next {
+        flat: moved(f, rows, wipe),
+        wipe,
+    })
 }

@@ -2,43 +2,18 @@
 #![tactic(auto)]
 
 ghost use Rattle.std.specs.Prelude.{◌≡◌};
-ghost use Rattle.tens.specs.Tens.{number_of, kind_of, place_of, size_of, tile_of};
+ghost use Rattle.tens.specs.Tens.{kind_of, place_of, size_of, tile_of};
 
 use part::registers::{Cycle, Registers};
 
-fn number_of(b: bool) -> usize
-    ensures { result ≡ number_of b }
-{
-    if b { 1 } else { 0 }
-}
-
-fn kind_of(k: Cycle) -> usize
-    ensures { result ≡ kind_of k }
+// A cycle's kind, its place, and its size or the byte that was there: what a host keeps of it, as numbers.
+fn cycle_numbers(k: Cycle) -> (usize, usize, usize)
+    ensures { result ≡ (kind_of k, place_of k, size_of k) }
 {
     match k {
-        Cycle::Nothing => 0,
-        Cycle::Row(_, _) => 1,
-        Cycle::Byte(_, _) => 2,
-    }
-}
-
-fn place_of(k: Cycle) -> usize
-    ensures { result ≡ place_of k }
-{
-    match k {
-        Cycle::Nothing => 0,
-        Cycle::Row(at, _) => at,
-        Cycle::Byte(at, _) => at,
-    }
-}
-
-fn size_of(k: Cycle) -> usize
-    ensures { result ≡ size_of k }
-{
-    match k {
-        Cycle::Nothing => 0,
-        Cycle::Row(_, n) => n,
-        Cycle::Byte(_, v) => v as usize,
+        Cycle::Nothing => (0, 0, 0),
+        Cycle::Row(at, n) => (1, at, n),
+        Cycle::Byte(at, v) => (2, at, v as usize),
     }
 }
 
@@ -46,17 +21,17 @@ fn size_of(k: Cycle) -> usize
 pub fn tile_of(r: Registers) -> [usize; 10]
     ensures { result ≡ tile_of r }
 {
-    let k = r.cycle;
+    let (kind, place, size) = cycle_numbers(r.cycle);
     [
         r.gpo1 as usize,
         r.mngt as usize,
         r.cfg as usize,
         r.rf as usize,
-        number_of(r.session),
-        number_of(r.reported),
+        r.session as usize,
+        r.reported as usize,
         r.busy as usize,
-        kind_of(k),
-        place_of(k),
-        size_of(k),
+        kind,
+        place,
+        size,
     ]
 }

@@ -13,7 +13,7 @@
 --   no_place                   == zeros: no place
 --   scrub_place, write_place, row_place, chunk_place == their places
 --   bit_of b, bits_of r         == a bool as 0 or 1; the three rows to come as bits 0 to 2
-use Rattle.std.specs.Prelude.{ℕ, ◌+◌, ◌*◌, Bool, true, false}
+use Rattle.std.specs.Prelude.{ℕ, ◌+◌, ◌*◌, Bool, true, false, Option, Some, None}
 use Rattle.machine.specs.declared.wait.Wait.{Wait}
 use Rattle.machine.specs.declared.wait.Wait.TheVariants as W
 use Rattle.machine.specs.declared.switch.Switch.{Switch}
@@ -34,8 +34,6 @@ use Rattle.writing.specs.declared.write.Write.{Write}
 use Rattle.writing.specs.declared.write.Write.TheVariants as K
 use Rattle.stages.specs.declared.stage.Stage.{Stage}
 use Rattle.stages.specs.declared.stage.Stage.TheVariants as G
-use Rattle.session.specs.declared.session.Now.{Now}
-use Rattle.session.specs.declared.session.Now.TheVariants as N
 use Rattle.session.specs.declared.session.Session.{Session}
 use Rattle.numbers.specs.declared.flat.Code.{Code}
 use Rattle.numbers.specs.declared.flat.Place.{Place}
@@ -178,9 +176,9 @@ stage_place (G.FinishOff s) = no_place
 stage_place (G.FinishStatus stuck) = no_place
 stage_place (G.FinishWipe stuck s) = scrub_place s
 
-abbrev pub now_flat : ℕ → ℕ → ℕ → Now → Flat
-now_flat mark rows lent N.Idle = record { stage = 1; code = no_code; place = no_place; mark = mark; rows = rows; lent = lent }
-now_flat mark rows lent (N.Open st) = record { stage = stage_tag st; code = stage_code st; place = stage_place st; mark = mark; rows = rows; lent = lent }
+abbrev pub now_flat : ℕ → ℕ → ℕ → Option Stage → Flat
+now_flat mark rows lent None = record { stage = 1; code = no_code; place = no_place; mark = mark; rows = rows; lent = lent }
+now_flat mark rows lent (Some st) = record { stage = stage_tag st; code = stage_code st; place = stage_place st; mark = mark; rows = rows; lent = lent }
 
 abbrev pub flatten : Session → Flat
 flatten s = now_flat s.mark s.rows s.lent s.now

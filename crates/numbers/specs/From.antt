@@ -8,7 +8,7 @@
 --   scrub_from c p, write_from c p == a wipe and a write, from what they are at and where
 --   chunk_from p, rows_from p == the chunk of a wipe; the row that it programs, and which of the three after it are to be
 --   piece_from p, check_from c p == the row of a write; the chunk that it reads back
-use Rattle.std.specs.Prelude.{ℕ, ◌/◌, ◌%◌, eqb, ltb}
+use Rattle.std.specs.Prelude.{ℕ, ◌/◌, ◌%◌, eqb, ltb, Option, Some, None}
 use Rattle.slices.specs.Pick.{pick}
 use Rattle.machine.specs.declared.wait.Wait.{Wait}
 use Rattle.machine.specs.declared.wait.Wait.TheVariants as W
@@ -32,8 +32,6 @@ use Rattle.writing.specs.declared.write.Write.{Write}
 use Rattle.writing.specs.declared.write.Write.TheVariants as K
 use Rattle.stages.specs.declared.stage.Stage.{Stage}
 use Rattle.stages.specs.declared.stage.Stage.TheVariants as G
-use Rattle.session.specs.declared.session.Now.{Now}
-use Rattle.session.specs.declared.session.Now.TheVariants as N
 use Rattle.session.specs.declared.session.Session.{Session}
 use Rattle.numbers.specs.declared.flat.Code.{Code}
 use Rattle.numbers.specs.declared.flat.Place.{Place}
@@ -118,12 +116,12 @@ end_from tag c p =
     (pick (eqb tag 17) (G.FinishStatus (eqb c.which 1))
     (G.FinishWipe (eqb c.which 1) (scrub_from c p)))))
 
-abbrev pub now_from : ℕ → Code → Place → Now
+abbrev pub now_from : ℕ → Code → Place → Option Stage
 now_from tag c p =
-    pick (ltb tag 2) N.Idle
-    (pick (ltb tag 8) (N.Open (start_from tag c p))
-    (pick (ltb tag 14) (N.Open (whole_from tag c p))
-    (N.Open (end_from tag c p))))
+    pick (ltb tag 2) None
+    (pick (ltb tag 8) (Some (start_from tag c p))
+    (pick (ltb tag 14) (Some (whole_from tag c p))
+    (Some (end_from tag c p))))
 
 abbrev pub session_from : Flat → Session
 session_from f = record { mark = f.mark; rows = f.rows; lent = f.lent; now = now_from f.stage f.code f.place }

@@ -5,7 +5,8 @@ use mathlib.Core.Path.{◌≡◌, sym, ◌∙◌}
 use mathlib.Core.List.{List}
 use Prim.Native.Nat.{ℕ}
 use Rattle.slices.specs.Bytes.{Wrote}
-use Rattle.judging.specs.declared.Built.{Built}
+use Rattle.layout.specs.declared.refusal.Refusal.{Refusal}
+use Rattle.std.specs.Prelude.{Result}
 use Rattle.tells.specs.Builds.{Tells}
 use Rattle.telling.specs.Left.{Left, Leaves}
 
@@ -18,7 +19,7 @@ pub wrote-once : (before : List ℕ) (at : ℕ) (bs x y : List ℕ) (m n : ℕ) 
 wrote-once before at bs x y m n p q = (once p.bytes q.bytes, once p.place q.place)
 
 -- a builder's export: its number, its values, and the buffer afterwards
-pub tells_once : (b : Built) (left : List ℕ) (r s : ℕ) (vs ws x y : List ℕ) → Tells b left r vs x → Tells b left s ws y → (r ≡ s) × (vs ≡ ws) × (x ≡ y)
+pub tells_once : (b : Result ℕ Refusal) (left : List ℕ) (r s : ℕ) (vs ws x y : List ℕ) → Tells b left r vs x → Tells b left s ws y → (r ≡ s) × (vs ≡ ws) × (x ≡ y)
 tells_once b left r s vs ws x y p q = (once p.number q.number, once p.values q.values, once p.bytes q.bytes)
 
 -- a session's export: its step, and the state, the transfer buffer and the reply buffer afterwards

@@ -2,54 +2,22 @@
 #![tactic(auto)]
 
 ghost use Rattle.std.specs.Prelude.{◌≡◌};
-ghost use Rattle.telling.specs.Left.{opened_now, opened_by, opened_of, mark_of};
+ghost use Rattle.telling.specs.Left.{opened_of};
 
 use decoding::decode;
 use framing::short;
-use session::session::Now;
-use state::decode::Decoded;
-use telling::opening::Opened;
+use telling::opening::Misuse;
 
-fn opened_now(m: usize, now: Now, transfer: usize, reply: usize) -> Opened
-    ensures { result ≡ opened_now m now transfer reply }
-{
-    match now {
-        Now::Idle => {
-            if short(transfer, reply) {
-                Opened::Not(33)
-            } else {
-                Opened::At(m)
-            }
-        }
-        Now::Open(_) => Opened::Not(32),
-    }
-}
-
-fn opened_by(d: Decoded, transfer: usize, reply: usize) -> Opened
-    ensures { result ≡ opened_by d transfer reply }
-{
-    match d {
-        Decoded::State(s) => {
-            let now = s.now;
-            opened_now(s.mark, now, transfer, reply)
-        }
-        Decoded::Nothing => Opened::Not(34),
-    }
-}
-
-// May a call be started on this state, with a transfer and a reply buffer of these lengths?
-pub fn opened_at(state: &[u8], transfer: usize, reply: usize) -> Opened
+// The mark that a call starts with on this state, with a transfer and a reply buffer of these lengths.
+pub fn opened_at(state: &[u8], transfer: usize, reply: usize) -> Result<usize, Misuse>
     ensures { result ≡ opened_of state.now transfer reply }
 {
-    opened_by(decode(state), transfer, reply)
-}
-
-// The mark that a call starts with.
-pub fn mark_of(o: Opened) -> usize
-    ensures { result ≡ mark_of o }
-{
-    match o {
-        Opened::At(m) => m,
-        Opened::Not(_) => 0,
+    let s = decode(state).ok_or(Misuse::NoState)?;
+    if s.now.is_some() {
+        return Err(Misuse::CallOpen);
     }
+    if short(transfer, reply) {
+        return Err(Misuse::WrongLength);
+    }
+    Ok(s.mark)
 }

@@ -1,72 +1,46 @@
-// The exports, by the number that `names` gives. Each function gets the parts of the arrays that are lent.
+// The exports, on the parts of a session's arrays that are lent.
 #![tactic(auto)]
 
-use cases::words::{number, second};
+use buffers::arrays::Lent;
+use buffers::names::Export;
+use cases::words::{number, word};
+use skipnadur::replies::{skp_tag_dirty, skp_tag_new, skp_tag_next, skp_tag_reply};
+use skipnadur::starts::{
+    skp_tag_begin, skp_tag_finish, skp_tag_go_live, skp_tag_identify, skp_tag_prepare,
+    skp_tag_read_user, skp_tag_read_whole, skp_tag_rf_off, skp_tag_rf_on, skp_tag_rf_wrote,
+    skp_tag_scrub, skp_tag_wait_ready, skp_tag_write,
+};
 
-fn first_starts(call: usize, state: &mut [u8], transfer: &mut [u8], reply: &mut [u8]) -> u64 {
-    match call {
-        1 => skipnadur::starts::skp_tag_identify(state, transfer, reply),
-        2 => skipnadur::starts::skp_tag_prepare(state, transfer, reply),
-        3 => skipnadur::starts::skp_tag_wait_ready(state, transfer, reply),
-        4 => skipnadur::starts::skp_tag_rf_off(state, transfer, reply),
-        _ => skipnadur::starts::skp_tag_rf_on(state, transfer, reply),
+// The step that the export returns. The line's number is a mark, a place or a reply's acknowledgement.
+pub fn step(line: &[u8], export: Export, lent: Lent<'_>) -> u64 {
+    let n = number(word(line, 1));
+    let Lent {
+        state,
+        transfer,
+        reply,
+        data,
+        out,
+    } = lent;
+    match export {
+        Export::New => skp_tag_new(state, n),
+        Export::Dirty => skp_tag_dirty(state),
+        Export::Identify => skp_tag_identify(state, transfer, reply),
+        Export::Prepare => skp_tag_prepare(state, transfer, reply),
+        Export::WaitReady => skp_tag_wait_ready(state, transfer, reply),
+        Export::RfOff => skp_tag_rf_off(state, transfer, reply),
+        Export::RfOn => skp_tag_rf_on(state, transfer, reply),
+        Export::RfWrote => skp_tag_rf_wrote(state, transfer, reply),
+        Export::Scrub => skp_tag_scrub(state, transfer, reply),
+        Export::Begin => skp_tag_begin(state, transfer, reply),
+        Export::GoLive => skp_tag_go_live(state, transfer, reply),
+        Export::Finish => skp_tag_finish(state, transfer, reply),
+        Export::Write => skp_tag_write(state, transfer, reply, n, data),
+        Export::ReadUser => skp_tag_read_user(state, transfer, reply, n, out),
+        Export::ReadWhole => skp_tag_read_whole(state, transfer, reply, out),
+        Export::Next => skp_tag_next(state, transfer, reply, data, out),
+        Export::Reply => {
+            let ack = (n % 0x1_0000_0000) as u32;
+            skp_tag_reply(state, transfer, reply, data, out, ack)
+        }
     }
-}
-
-fn later_starts(call: usize, state: &mut [u8], transfer: &mut [u8], reply: &mut [u8]) -> u64 {
-    match call {
-        6 => skipnadur::starts::skp_tag_rf_wrote(state, transfer, reply),
-        7 => skipnadur::starts::skp_tag_scrub(state, transfer, reply),
-        8 => skipnadur::starts::skp_tag_begin(state, transfer, reply),
-        9 => skipnadur::starts::skp_tag_go_live(state, transfer, reply),
-        _ => skipnadur::starts::skp_tag_finish(state, transfer, reply),
-    }
-}
-
-fn ack(line: &[u8]) -> u32 {
-    (number(second(line)) % 0x1_0000_0000) as u32
-}
-
-fn with_bytes(
-    line: &[u8],
-    call: usize,
-    state: &mut [u8],
-    transfer: &mut [u8],
-    reply: &mut [u8],
-    data: &[u8],
-    out: &[u8],
-) -> u64 {
-    let at = number(second(line));
-    match call {
-        11 => skipnadur::starts::skp_tag_write(state, transfer, reply, at, data),
-        12 => skipnadur::starts::skp_tag_read_user(state, transfer, reply, at, out),
-        13 => skipnadur::starts::skp_tag_read_whole(state, transfer, reply, out),
-        14 => skipnadur::replies::skp_tag_next(state, transfer, reply, data, out),
-        _ => skipnadur::replies::skp_tag_reply(state, transfer, reply, data, out, ack(line)),
-    }
-}
-
-// The step that the export returns.
-pub fn step(
-    line: &[u8],
-    call: usize,
-    state: &mut [u8],
-    transfer: &mut [u8],
-    reply: &mut [u8],
-    data: &[u8],
-    out: &[u8],
-) -> u64 {
-    if call <= 5 {
-        return first_starts(call, state, transfer, reply);
-    }
-    if call <= 10 {
-        return later_starts(call, state, transfer, reply);
-    }
-    if call <= 15 {
-        return with_bytes(line, call, state, transfer, reply, data, out);
-    }
-    if call == 16 {
-        return skipnadur::replies::skp_tag_new(state, number(second(line)));
-    }
-    skipnadur::replies::skp_tag_dirty(state)
 }

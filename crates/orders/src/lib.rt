@@ -43,21 +43,15 @@ fn alone(sent: &[u8], o: Order) -> Order
 }
 
 // What the bytes `sent` to the address `dev` ask for.
+#[tactic(auto, unfolding(part::specs::Orders::order_of))]
 pub fn order_of(dev: u8, sent: &[u8]) -> Order
     ensures { result ≡ order_of dev sent.now }
 {
-    if dev == 0x53 {
-        return user_order(sent);
-    }
-    if dev == 0x57 {
-        return system_order(sent);
-    }
-    if dev == 0x51 {
-        return alone(sent, Order::SwitchOn);
-    }
-    if dev == 0x55 {
-        alone(sent, Order::SwitchOff)
-    } else {
-        Order::Unknown
+    match dev {
+        0x53 => user_order(sent),
+        0x57 => system_order(sent),
+        0x51 => alone(sent, Order::SwitchOn),
+        0x55 => alone(sent, Order::SwitchOff),
+        _ => Order::Unknown,
     }
 }

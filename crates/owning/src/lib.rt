@@ -6,8 +6,8 @@ ghost use Rattle.numbers.specs.Flat.{no_code, no_place, write_code, write_place,
 ghost use Rattle.numbers.specs.From.{write_from, start_from, end_from, session_from};
 ghost use Rattle.state.specs.Bytes.{same_code, same_place, same_flat, same_stage};
 
-use agreeing::{nowhere, same_code, same_place};
-use flattening::{bit, code, place, setup_code, switch_code, wait_code, write_code, write_place};
+use agreeing::nowhere;
+use flattening::{code, place, setup_code, switch_code, wait_code, write_code, write_place};
 use midway::{scrub_own, whole_own};
 use numbers::flat::{Code, Flat, Place};
 use restoring::{setup_from, switch_from, wait_from, write_from};
@@ -16,13 +16,13 @@ fn write_own(c: Code, p: Place) -> bool
     ensures { result ≡ (same_code (write_code (write_from c p)) c && same_place (write_place (write_from c p)) p) }
 {
     let w = write_from(c, p);
-    same_code(write_code(w), c) & same_place(write_place(w), p)
+    (write_code(w) == c) & (write_place(w) == p)
 }
 
 fn read_own(c: Code, p: Place) -> bool
     ensures { result ≡ (same_code no_code c && same_place (record { bits = 0; left = 0; at = p.at; end = p.end; row = 0 }) p) }
 {
-    same_code(code(0, 0, 0, 0), c) & same_place(place(0, p.at, p.end, 0), p)
+    (code(0, 0, 0, 0) == c) & (place(0, p.at, p.end, 0) == p)
 }
 
 // Between two calls.
@@ -39,44 +39,28 @@ fn idle_own(tag: u8, c: Code, p: Place) -> bool
 fn start_own(tag: u8, c: Code, p: Place) -> bool
     ensures { result ≡ same_stage (start_from tag c p) tag c p }
 {
-    if tag == 2 {
-        return nowhere(code(0, 0, 0, 0), c, p);
+    match tag {
+        2 => nowhere(code(0, 0, 0, 0), c, p),
+        3 => nowhere(setup_code(setup_from(c)), c, p),
+        4 => nowhere(wait_code(0, 0, wait_from(c)), c, p),
+        5 => read_own(c, p),
+        6 => write_own(c, p),
+        7 => nowhere(switch_code(switch_from(c)), c, p),
+        _ => false,
     }
-    if tag == 3 {
-        return nowhere(setup_code(setup_from(c)), c, p);
-    }
-    if tag == 4 {
-        return nowhere(wait_code(0, 0, wait_from(c)), c, p);
-    }
-    if tag == 5 {
-        return read_own(c, p);
-    }
-    if tag == 6 {
-        return write_own(c, p);
-    }
-    if tag == 7 {
-        return nowhere(switch_code(switch_from(c)), c, p);
-    }
-    false
 }
 
 // Stages 14 to 18.
 fn end_own(tag: u8, c: Code, p: Place) -> bool
     ensures { result ≡ same_stage (end_from tag c p) tag c p }
 {
-    if (tag == 14) | (tag == 16) {
-        return nowhere(switch_code(switch_from(c)), c, p);
+    match tag {
+        14 | 16 => nowhere(switch_code(switch_from(c)), c, p),
+        15 => nowhere(code(0, 0, 0, 0), c, p),
+        17 => nowhere(code(0, 0, u8::from(c.which == 1), 0), c, p),
+        18 => scrub_own(u8::from(c.which == 1), c, p),
+        _ => false,
     }
-    if tag == 15 {
-        return nowhere(code(0, 0, 0, 0), c, p);
-    }
-    if tag == 17 {
-        return nowhere(code(0, 0, bit(c.which == 1), 0), c, p);
-    }
-    if tag == 18 {
-        return scrub_own(bit(c.which == 1), c, p);
-    }
-    false
 }
 
 pub fn own(f: Flat) -> bool
@@ -85,14 +69,10 @@ pub fn own(f: Flat) -> bool
     let tag = f.stage;
     let c = f.code;
     let p = f.place;
-    if tag < 2 {
-        return idle_own(tag, c, p);
+    match tag {
+        0..=1 => idle_own(tag, c, p),
+        2..=7 => start_own(tag, c, p),
+        8..=13 => whole_own(tag, c, p),
+        _ => end_own(tag, c, p),
     }
-    if tag < 8 {
-        return start_own(tag, c, p);
-    }
-    if tag < 14 {
-        return whole_own(tag, c, p);
-    }
-    end_own(tag, c, p)
 }

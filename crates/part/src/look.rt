@@ -12,5 +12,6 @@ pub enum Look {
     Byte(usize),
     // MEM_SIZE to the end of the UID.
     Identity,
+    // A read that no call makes. A variant and no Option around the others: `known` and `shown` say of it, as of each, what the part answers.
     Unknown,
 }

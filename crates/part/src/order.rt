@@ -14,5 +14,6 @@ pub enum Order {
     Byte(usize, u8),
     SwitchOn,
     SwitchOff,
+    // A write that no call makes. A variant and no Option around the others: `takes` says of it, as of each, whether the part takes it.
     Unknown,
 }

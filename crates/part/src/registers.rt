@@ -3,6 +3,7 @@
 // What the running write cycle programs: what a cut inside it leaves open.
 #[derive(Clone, Copy)]
 pub enum Cycle {
+    // No cycle runs. It is a variant and no Option around two others: one match over the three is plainer.
     Nothing,
     // A row write: its place, and how many bytes.
     Row(usize, usize),

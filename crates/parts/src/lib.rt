@@ -10,7 +10,7 @@ ghost use Rattle.layout.specs.Block.{message_head};
 ghost use Rattle.layout.specs.Record.{record_head};
 
 use lengths::head_len;
-use numerals::{put16, put32};
+use numerals::put_be;
 use slices::{copy_to, put};
 
 // The eight bytes before the first block.
@@ -19,7 +19,7 @@ pub fn put_container(out: &mut [u8], area: usize) -> usize
     ensures { Wrote out.old 0 (container area) out.new result }
 {
     let at = copy_to(out, 0, b"\xE2\x40\x00\x01\x00\x00");
-    put16(out, at, area / 8)
+    put_be::<2>(out, at, area / 8)
 }
 
 // Type and length of the block that holds a message of `n` bytes.
@@ -32,7 +32,7 @@ pub fn put_message_head(out: &mut [u8], at: usize, n: usize) -> usize
         return put(out, a, (n % 256) as u8);
     }
     let a = copy_to(out, at, b"\x03\xFF");
-    put16(out, a, n)
+    put_be::<2>(out, a, n)
 }
 
 // Header, type length and payload length of the one record of a message.
@@ -47,7 +47,7 @@ pub fn put_record_head(out: &mut [u8], at: usize, format: u8, kind_len: u8, payl
     }
     let a = put(out, at, 0xC0 + format);
     let b = put(out, a, kind_len);
-    put32(out, b, payload)
+    put_be::<4>(out, b, payload)
 }
 
 // The record's length, where it fits 64 bits.

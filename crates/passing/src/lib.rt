@@ -11,10 +11,5 @@ use registers::left;
 pub fn wait(r: Registers, ms: usize) -> Registers
     ensures { result ≡ with_busy (r.busy - ms) r }
 {
-    let busy = r.busy as usize;
-    if busy <= ms {
-        left(r, 0)
-    } else {
-        left(r, (busy - ms) as u8)
-    }
+    left(r, (r.busy as usize).saturating_sub(ms) as u8)
 }

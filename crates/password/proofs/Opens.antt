@@ -3,24 +3,25 @@ use mathlib.Core.Path.{◌≡◌, refl, ap, fun_ext, ◌∙◌}
 use mathlib.Core.Bool.{Bool, true, false}
 use mathlib.Core.List.{List}
 use Prim.Native.Nat.{ℕ}
+use Rattle.std.specs.Prelude.{Ok, Err, Some, None}
 use Rattle.slices.specs.Pick.{pick}
+use Rattle.protocol.specs.Answer.{Progress}
 use Rattle.protocol.specs.Tag.{open_bit}
 use Rattle.protocol.specs.Proc.{Proc, done, ask, Res, ok, try, fine, refuse}
 use Rattle.protocol.specs.declared.answer.TagError.TheVariants.{NoAnswer, Refused}
 use Rattle.machine.specs.Ask.{meant, first}
 use Rattle.machine.specs.Wait.{wait_new, wait_ask, wait_step, after_wait}
-use Rattle.machine.specs.declared.wait.Waited.{Waited}
-use Rattle.machine.specs.declared.wait.Waited.TheVariants as W
+use Rattle.machine.specs.declared.wait.Wait.{Wait}
 use Rattle.machine.proofs.Waits.{wait_bridge}
 use Rattle.password.specs.Open.{open_ask, presented, open_waited, open_looked, open_step, open_look, resume_open, after_open}
 use Rattle.password.specs.declared.Open.{Open}
 use Rattle.password.specs.declared.Open.TheVariants as O
 
 -- the wait, nested in what follows it
-open_waited_lem : (x : Waited) → try (after_wait x) (λ _. open_look) ≡ after_open (open_waited x)
-open_waited_lem (W.More w) = refl
-open_waited_lem W.Ready = refl
-open_waited_lem W.Busy = refl
+open_waited_lem : (x : Progress Wait) → try (after_wait x) (λ _. open_look) ≡ after_open (open_waited x)
+open_waited_lem (Ok (Some w)) = refl
+open_waited_lem (Ok None) = refl
+open_waited_lem (Err e) = refl
 
 present_case : (b : Bool) → try (pick b fine (refuse NoAnswer)) (λ _. resume_open (O.Wait wait_new)) ≡ after_open (presented b)
 present_case true = refl

@@ -4,9 +4,10 @@
 ghost use Rattle.std.specs.Prelude.{◌≡◌};
 ghost use Rattle.password.specs.Open.{open_ask, presented, open_waited, open_looked, open_step};
 
+use machine::ack::acked;
 use machine::ask::Ask;
-use machine::wait::{Wait, Waited};
-use protocol::answer::TagError;
+use machine::wait::Wait;
+use protocol::answer::{Progress, TagError};
 
 #[derive(Clone, Copy)]
 pub enum Open {
@@ -15,45 +16,28 @@ pub enum Open {
     Look,
 }
 
-#[derive(Clone, Copy)]
-pub enum Opened {
-    More(Open),
-    Done,
-    Not(TagError),
-}
-
-fn presented(ack: bool) -> Opened
+fn presented(ack: bool) -> Progress<Open>
     ensures { result ≡ presented ack }
 {
-    if ack {
-        Opened::More(Open::Wait(Wait::new()))
-    } else {
-        Opened::Not(TagError::NoAnswer)
-    }
+    acked(ack)?;
+    Ok(Some(Open::Wait(Wait::new())))
 }
 
-fn waited(w: Waited) -> Opened
+fn waited(w: Progress<Wait>) -> Progress<Open>
     ensures { result ≡ open_waited w }
 {
-    match w {
-        Waited::More(n) => Opened::More(Open::Wait(n)),
-        Waited::Ready => Opened::More(Open::Look),
-        Waited::Busy => Opened::Not(TagError::Busy),
-    }
+    Ok(Some(w?.map_or(Open::Look, Open::Wait)))
 }
 
 // Bit 0 of I2C_SSO_Dyn says that the session is open.
-fn looked(ack: bool, v: u8) -> Opened
+fn looked(ack: bool, v: u8) -> Progress<Open>
     ensures { result ≡ open_looked ack v }
 {
-    if ack {
-        if v % 2 == 1 {
-            Opened::Done
-        } else {
-            Opened::Not(TagError::Refused)
-        }
+    acked(ack)?;
+    if v % 2 == 1 {
+        Ok(None)
     } else {
-        Opened::Not(TagError::NoAnswer)
+        Err(TagError::Refused)
     }
 }
 
@@ -68,7 +52,7 @@ impl Open {
         }
     }
 
-    pub fn step(self, ack: bool, v: u8) -> Opened
+    pub fn step(self, ack: bool, v: u8) -> Progress<Open>
         ensures { result ≡ open_step self ack v }
     {
         match self {

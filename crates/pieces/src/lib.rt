@@ -4,7 +4,8 @@
 ghost use Rattle.std.specs.Prelude.{◌≡◌};
 ghost use Rattle.pieces.specs.Parts.{part_of};
 
-// The `len` bytes at `at`, if they are all there; else none, never fewer.
+// The `len` bytes at `at`, if they are all there; else none, never fewer. No Option: `part_of`, which C is promised, has no bytes there.
+#[tactic(auto, unfolding(crate::specs::Parts::part_of))]
 pub fn part(image: &[u8], at: usize, len: usize) -> &[u8]
     ensures { result.now ≡ part_of image.now at len }
 {

@@ -6,37 +6,37 @@ ghost use Rattle.pieces.specs.Parts.{is_of};
 ghost use Rattle.plain.specs.Reading.{record_of, yes};
 ghost use Rattle.places.specs.Places.{part_at, part_number, part_numbers, kind_part, id_part, payload_part};
 
-use contents::Part;
-use lengths::sat_add;
 use plain::record_of;
+use tlv::Span;
 
 // 1 and the place and length of a part, or 0 and zeros.
-pub fn told(p: Part, part: &mut [usize; 2]) -> u32
+pub fn told(p: Option<Span>, part: &mut [usize; 2]) -> u32
     ensures { (result ≡ part_number p) × (part.new ≡ part_numbers p) }
 {
     match p {
-        Part::At(place, len) => {
-            *part = [place, len];
+        Some(Span { at, len }) => {
+            *part = [at, len];
             1
         }
-        Part::Nothing => {
-            *part = [0usize; 2];
+        None => {
+            *part = [0; 2];
             0
         }
     }
 }
 
 // The `len` bytes at `at`, where they are all in the image.
-fn part_at(image: &[u8], at: usize, len: usize) -> Part
+#[tactic(auto, unfolding(crate::specs::Places::part_at))]
+fn part_at(image: &[u8], at: usize, len: usize) -> Option<Span>
     ensures { result ≡ part_at image.now at len }
 {
     if image.len() < at {
-        return Part::Nothing;
+        return None;
     }
     if image.len() - at < len {
-        return Part::Nothing;
+        return None;
     }
-    Part::At(at, len)
+    Some(Span { at, len })
 }
 
 // A record's type name.
@@ -48,19 +48,23 @@ pub fn kind(image: &[u8], places: &[usize; 6], part: &mut [usize; 2]) -> u32
 }
 
 // Its id.
+#[tactic(auto, using(crate::proofs::Parts::part_at_sat))]
 pub fn id(image: &[u8], places: &[usize; 6], part: &mut [usize; 2]) -> u32
     ensures { (result ≡ part_number (id_part image.now (record_of places.now))) × (part.new ≡ part_numbers (id_part image.now (record_of places.now))) }
 {
-    let at = sat_add(places[2], places[3]);
+    let at = places[2].saturating_add(places[3]);
     let p = part_at(image, at, places[4]);
     told(p, part)
 }
 
 // Its payload.
+#[tactic(auto, using(crate::proofs::Parts::part_at_sat_twice))]
 pub fn payload(image: &[u8], places: &[usize; 6], part: &mut [usize; 2]) -> u32
     ensures { (result ≡ part_number (payload_part image.now (record_of places.now))) × (part.new ≡ part_numbers (payload_part image.now (record_of places.now))) }
 {
-    let at = sat_add(sat_add(places[2], places[3]), places[4]);
+    let at = places[2]
+        .saturating_add(places[3])
+        .saturating_add(places[4]);
     let p = part_at(image, at, places[5]);
     told(p, part)
 }
@@ -69,5 +73,5 @@ pub fn payload(image: &[u8], places: &[usize; 6], part: &mut [usize; 2]) -> u32
 pub fn is(image: &[u8], places: &[usize; 6], name: u8) -> u32
     ensures { result ≡ yes (is_of image.now (record_of places.now) name) }
 {
-    kinds::is(image, record_of(places), name) as u32
+    u32::from(kinds::is(image, record_of(places), name))
 }

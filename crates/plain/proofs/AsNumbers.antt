@@ -1,7 +1,7 @@
 -- Laws of a record as plain numbers.
 --
 --   as_number          == a bool made a number
---   read-back          == a record's six numbers say that record
+--   read_back_lem      == a record's six numbers say that record
 use mathlib.Core.Path.{◌≡◌, refl}
 use mathlib.Core.Bool.{Bool, true, false, not}
 use Prim.Native.Nat.{◌≤◌, min}

@@ -7,12 +7,12 @@
 --   record_of l        == the record that six numbers say: any `last` but 0 is the last, a format over 255 is none that a record has
 --   entry_number e     == what stands at a cursor: 0 for a record, document 01's 13 or 14, 255 at the end
 --   entry_places e     == the record's six numbers, zeros where there is none
-use Rattle.std.specs.Prelude.{Bool, not, List, [], ◌∷◌, ℕ, min, get_or, replicate, eqb}
+use Rattle.std.specs.Prelude.{Bool, not, List, [], ◌∷◌, ℕ, min, get_or, replicate, eqb, Some, None, Ok, Err}
 use Rattle.slices.specs.Pick.{pick}
 use Rattle.records.specs.declared.Record.{Record}
+use Rattle.records.specs.Parse.{malformed_number}
 use Rattle.walk.specs.declared.Cursor.{Cursor}
-use Rattle.walk.specs.declared.Entry.{Entry}
-use Rattle.walk.specs.declared.Entry.TheVariants as entry
+use Rattle.walk.specs.Step.{Entry}
 
 abbrev pub cursor_numbers : Cursor → List ℕ
 cursor_numbers c = c.at ∷ c.end ∷ []
@@ -38,13 +38,11 @@ record_of l =
     }
 
 abbrev pub entry_number : Entry → ℕ
-entry_number (entry.Record r) = 0
-entry_number entry.End = 255
-entry_number entry.Truncated = 13
-entry_number entry.Chunked = 14
+entry_number (Ok (Some r)) = 0
+entry_number (Ok None) = 255
+entry_number (Err why) = malformed_number why
 
 abbrev pub entry_places : Entry → List ℕ
-entry_places (entry.Record r) = places_of r
-entry_places entry.End = replicate 6 0
-entry_places entry.Truncated = replicate 6 0
-entry_places entry.Chunked = replicate 6 0
+entry_places (Ok (Some r)) = places_of r
+entry_places (Ok None) = replicate 6 0
+entry_places (Err why) = replicate 6 0

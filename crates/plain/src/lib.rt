@@ -28,7 +28,7 @@ fn numbers(r: Record) -> [usize; 6]
 fn format_of(x: usize) -> u8
     ensures { result ≡ min x 255 }
 {
-    if x < 255 { x as u8 } else { 255 }
+    x.min(255) as u8
 }
 
 // The record whose places these are.
@@ -50,22 +50,17 @@ fn entry(e: Entry, places: &mut [usize; 6]) -> u32
     ensures { (result ≡ entry_number e) × (places.new ≡ entry_places e) }
 {
     match e {
-        Entry::Record(r) => {
-            let p = numbers(r);
-            *places = p;
+        Ok(Some(r)) => {
+            *places = numbers(r);
             0
         }
-        Entry::End => {
-            *places = [0usize; 6];
+        Ok(None) => {
+            *places = [0; 6];
             255
         }
-        Entry::Truncated => {
-            *places = [0usize; 6];
-            13
-        }
-        Entry::Chunked => {
-            *places = [0usize; 6];
-            14
+        Err(why) => {
+            *places = [0; 6];
+            u32::from(u8::from(why))
         }
     }
 }
@@ -77,7 +72,7 @@ pub fn read(image: &[u8], cursor: &mut [usize; 2]) -> u32
     let m = blocks::read(image);
     let c = walk::start(m);
     *cursor = [c.at, c.end];
-    blocks::number(m) as u32
+    u32::from(blocks::number(m))
 }
 
 // What stands at the cursor, which moves on.
@@ -86,10 +81,8 @@ pub fn next(image: &[u8], cursor: &mut [usize; 2], places: &mut [usize; 6]) -> u
     ensures cursor_after { cursor.new ≡ cursor_numbers (moved image.now (cursor_of cursor.old)) }
     ensures places_after { places.new ≡ entry_places (entry_of image.now (cursor_of cursor.old)) }
 {
-    let at = cursor[0];
-    let end = cursor[1];
+    let [at, end] = *cursor;
     let s = walking::step(image, at, end);
     *cursor = [s.next, end];
-    let e = s.entry;
-    entry(e, places)
+    entry(s.entry, places)
 }

@@ -13,14 +13,12 @@ fn power_up(r: Registers) -> Registers
     ensures { result ≡ powered r }
 {
     Registers {
-        gpo1: r.gpo1,
-        mngt: r.mngt,
-        cfg: r.cfg,
         rf: r.mngt,
         session: false,
         reported: false,
         busy: 0,
         cycle: Cycle::Nothing,
+        ..r
     }
 }
 

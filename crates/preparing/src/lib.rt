@@ -6,56 +6,48 @@ ghost use Rattle.setup.specs.Setup.{identified, configured, judged, setup_step};
 
 use identity::is_the_part;
 use jobs::{opened, stored};
+use machine::ack::acked;
 use password::Open;
-use protocol::answer::TagError;
-use setup::setup::{Setup, SetupStep};
+use protocol::answer::{Progress, TagError};
+use setup::setup::Setup;
 
-pub fn identified(ack: bool, id: &[u8]) -> SetupStep
+pub fn identified(ack: bool, id: &[u8]) -> Progress<Setup>
     requires { 12 ≤ length id.now }
     ensures { result ≡ identified ack id.now }
 {
-    if ack {
-        if is_the_part(id) {
-            SetupStep::More(Setup::Config)
-        } else {
-            SetupStep::Not(TagError::NotThePart)
-        }
+    acked(ack)?;
+    if is_the_part(id) {
+        Ok(Some(Setup::Config))
     } else {
-        SetupStep::Not(TagError::NoAnswer)
+        Err(TagError::NotThePart)
     }
 }
 
 // A part counts as set up exactly when I2C_CFG is 3A.
-fn configured(ack: bool, v: u8) -> SetupStep
+fn configured(ack: bool, v: u8) -> Progress<Setup>
     ensures { result ≡ configured ack v }
 {
-    if ack {
-        if v == 0x3A {
-            SetupStep::More(Setup::Events)
-        } else {
-            SetupStep::More(Setup::Open(true, Open::Present))
-        }
+    acked(ack)?;
+    if v == 0x3A {
+        Ok(Some(Setup::Events))
     } else {
-        SetupStep::Not(TagError::NoAnswer)
+        Ok(Some(Setup::Open(true, Open::Present)))
     }
 }
 
-fn judged(ack: bool, v: u8) -> SetupStep
+fn judged(ack: bool, v: u8) -> Progress<Setup>
     ensures { result ≡ judged ack v }
 {
-    if ack {
-        if v == 0x85 {
-            SetupStep::Done
-        } else {
-            SetupStep::More(Setup::Open(false, Open::Present))
-        }
+    acked(ack)?;
+    if v == 0x85 {
+        Ok(None)
     } else {
-        SetupStep::Not(TagError::NoAnswer)
+        Ok(Some(Setup::Open(false, Open::Present)))
     }
 }
 
 // Where the reply leads.
-pub fn step(s: Setup, ack: bool, reply: &[u8]) -> SetupStep
+pub fn step(s: Setup, ack: bool, reply: &[u8]) -> Progress<Setup>
     requires { 12 ≤ length reply.now }
     ensures { result ≡ setup_step s ack reply.now }
 {

@@ -6,10 +6,11 @@ ghost use Rattle.writing.specs.Write.{piece_of, write_new, next_piece, piece_ste
 
 use comparing::{check_new, check_step, chunk_len};
 use cutting::{row_count, row_len};
+use machine::ack::acked;
 use machine::ask::Ask;
-use machine::wait::{Wait, Waited};
-use protocol::answer::TagError;
-use writing::write::{Piece, Write, Written};
+use machine::wait::Wait;
+use protocol::answer::Progress;
+use writing::write::{Piece, Write};
 
 // How many bytes the row has that is programmed.
 fn piece_len(p: Piece, len: usize) -> usize
@@ -20,7 +21,7 @@ fn piece_len(p: Piece, len: usize) -> usize
 }
 
 // A write of `len` bytes at `start`, from its first row.
-pub fn write_new(start: usize, len: usize) -> Written
+pub fn write_new(start: usize, len: usize) -> Progress<Write>
     requires { len ≤ 8192 }
     ensures { result ≡ write_new start len }
 {
@@ -28,15 +29,16 @@ pub fn write_new(start: usize, len: usize) -> Written
     if n == 0 {
         return check_new(start, len);
     }
-    Written::More(Write::Row(Piece {
+    Ok(Some(Write::Row(Piece {
         left: n - 1,
         start,
         done: 0,
-    }))
+    })))
 }
 
 // The row after one that was waited out.
-fn next_piece(p: Piece, len: usize) -> Written
+#[tactic(auto, using(scan::proofs::Cutting::row_most))]
+fn next_piece(p: Piece, len: usize) -> Progress<Write>
     requires { (p.start + p.done < 70000) × (p.done ≤ len) × (len ≤ 8192) }
     ensures { result ≡ next_piece p len }
 {
@@ -44,31 +46,27 @@ fn next_piece(p: Piece, len: usize) -> Written
     if left == 0 {
         return check_new(p.start, len);
     }
-    Written::More(Write::Row(Piece {
+    Ok(Some(Write::Row(Piece {
         left: left - 1,
         start: p.start,
         done: p.done + piece_len(p, len),
-    }))
+    })))
 }
 
-fn row_step(p: Piece, ack: bool) -> Written
+fn row_step(p: Piece, ack: bool) -> Progress<Write>
     ensures { result ≡ piece_step p ack }
 {
-    if ack {
-        Written::More(Write::Wait(p, Wait::new()))
-    } else {
-        Written::Not(TagError::NoAnswer)
-    }
+    acked(ack)?;
+    Ok(Some(Write::Wait(p, Wait::new())))
 }
 
-fn waited_step(p: Piece, w: Waited, len: usize) -> Written
+fn waited_step(p: Piece, w: Progress<Wait>, len: usize) -> Progress<Write>
     requires { (p.start + p.done < 70000) × (p.done ≤ len) × (len ≤ 8192) }
     ensures { result ≡ piece_waited p w len }
 {
-    match w {
-        Waited::More(n) => Written::More(Write::Wait(p, n)),
-        Waited::Ready => next_piece(p, len),
-        Waited::Busy => Written::Not(TagError::Busy),
+    match w? {
+        Some(n) => Ok(Some(Write::Wait(p, n))),
+        None => next_piece(p, len),
     }
 }
 
@@ -83,7 +81,7 @@ pub fn ask(s: Write, len: usize) -> Ask
     }
 }
 
-pub fn step(s: Write, ack: bool, reply: &[u8], lent: &[u8]) -> Written
+pub fn step(s: Write, ack: bool, reply: &[u8], lent: &[u8]) -> Progress<Write>
     requires { Inside (length lent.now) s × (64 ≤ length reply.now) }
     ensures { result ≡ write_step s ack reply.now lent.now }
 {

@@ -5,6 +5,7 @@ use mathlib.Core.Bool.{Bool, true, false, ◌&&◌}
 use Prim.Native.Nat.{ℕ, zero, suc, ◌+◌, ◌-◌, ◌%◌, ◌≤◌, min}
 use native.Mathlib.Omega.{arith}
 use lib.ListN.{length, take, drop, length-take}
+use Rattle.std.specs.Prelude.{Ok}
 use Rattle.scan.specs.Rows.{row_len, row_count}
 use Rattle.scan.specs.Zeros.{blank, alike}
 use Rattle.scan.proofs.Cutting.{row_room}
@@ -248,7 +249,7 @@ each_call (call.read_user at n) m = each_plain _ (each_read-user at n)
 each_call (call.write at bs) m = each_plain _ (each_write-user m at bs)
 each_call call.rf_off m = each_plain _ each_off
 each_call call.rf_on m = each_plain _ each_on
-each_call call.rf_wrote m = each_bind OneRow rf_wrote _ each_wrote (λ wrote. each_done OneRow (Wrote wrote))
+each_call call.rf_wrote m = each_bind OneRow rf_wrote _ each_wrote (λ wrote. each_done OneRow (Ok (Wrote wrote)))
 each_call (call.read_whole n) m = each_plain _ (each_whole m n)
 each_call call.scrub m = each_plain _ (each_scrub m)
 each_call call.begin m = each_plain _ (each_begin m)

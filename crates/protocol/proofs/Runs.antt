@@ -4,9 +4,11 @@ use mathlib.Core.List.{List, [], ◌∷◌}
 use Prim.Native.Nat.{◌+◌}
 use native.Mathlib.Omega.{arith}
 use lib.ListN.{length}
+use Rattle.std.specs.Prelude.{Result}
 use Rattle.protocol.specs.Mark.{Mark}
 use Rattle.protocol.specs.Proc.{Proc, done, ask, mark}
 use Rattle.protocol.specs.Trace.{Replies, later, Exchange, trace, rest, answer_of, mark_of, rows_in, Report, noted, report_on, talk, end_of}
+use Rattle.protocol.specs.declared.answer.TagError.{TagError}
 use Rattle.protocol.specs.declared.answer.Answer.{Answer}
 
 -- after as many replies as its trace has, a procedure has answered
@@ -16,7 +18,7 @@ ends (ask t k) ρ = ends (k (ρ 0)) (later ρ)
 ends (mark m p) ρ = ends p ρ
 
 -- what the host sees at the end
-pub seen : (p : Proc Answer) (m : Mark) (r : Report) (ρ : Replies)
+pub seen : (p : Proc (Result Answer TagError)) (m : Mark) (r : Report) (ρ : Replies)
     → end_of (talk m r p) ρ ≡ record { answer = answer_of p ρ; mark = mark_of m p ρ; report = report_on r (trace p ρ) }
 seen (done a) m r ρ = refl
 seen (ask t k) m r ρ = seen (k (ρ 0)) m (noted r (record { transfer = t; reply = ρ 0 })) (later ρ)

@@ -10,7 +10,7 @@
 --   plain r           == the result r as an answer
 --   plainly p         == p, its result as an answer
 --   call_of c m        == what the call c does, with the mark at m
-use Rattle.std.specs.Prelude.{ℕ, eqb}
+use Rattle.std.specs.Prelude.{ℕ, eqb, Result, Ok, Err}
 use Rattle.protocol.specs.Tag.{user_memory, user, ready_polls}
 use Rattle.protocol.specs.Mark.{Mark, whole, found, is_none}
 use Rattle.protocol.specs.Proc.{Proc, done, mark, ◌>>=◌, Res, ok, err, try, fine, refuse, when◌then◌else◌}
@@ -22,9 +22,10 @@ use Rattle.protocol.specs.Call as call
 use Rattle.protocol.specs.Setup as setup
 use Rattle.protocol.specs.Write as w
 use Rattle.protocol.specs.Scrub as s
+use Rattle.protocol.specs.declared.answer.TagError.{TagError}
 use Rattle.protocol.specs.declared.answer.TagError.TheVariants.{NotTaken}
 use Rattle.protocol.specs.declared.answer.Answer.{Answer}
-use Rattle.protocol.specs.declared.answer.Answer.TheVariants.{Done, Wrote, Not}
+use Rattle.protocol.specs.declared.answer.Answer.TheVariants.{Done, Wrote}
 
 unfoldable pub read_whole : Mark → ℕ → Proc (Res Unit)
 read_whole m n =
@@ -57,14 +58,14 @@ finish m =
     rf_wrote >>= λ wrote.
     when wrote then mark whole (closing whole off) else closing m off
 
-abbrev pub plain : Res Unit → Answer
-plain (ok a) = Done
-plain (err e) = Not e
+abbrev pub plain : Res Unit → Result Answer TagError
+plain (ok a) = Ok Done
+plain (err e) = Err e
 
-abbrev pub plainly : Proc (Res Unit) → Proc Answer
+abbrev pub plainly : Proc (Res Unit) → Proc (Result Answer TagError)
 plainly p = p >>= λ r. done (plain r)
 
-abbrev pub call_of : Call → Mark → Proc Answer
+abbrev pub call_of : Call → Mark → Proc (Result Answer TagError)
 call_of call.identify m = plainly setup.identify
 call_of call.prepare m = plainly setup.prepare
 call_of call.wait_ready m = plainly (wait_ready ready_polls)
@@ -72,7 +73,7 @@ call_of (call.read_user at n) m = plainly (w.read_user at n)
 call_of (call.write at bs) m = plainly (w.write_user m at bs)
 call_of call.rf_off m = plainly rf_off
 call_of call.rf_on m = plainly rf_on
-call_of call.rf_wrote m = rf_wrote >>= λ wrote. done (Wrote wrote)
+call_of call.rf_wrote m = rf_wrote >>= λ wrote. done (Ok (Wrote wrote))
 call_of (call.read_whole n) m = plainly (read_whole m n)
 call_of call.scrub m = plainly (s.scrub m)
 call_of call.begin m = plainly (begin m)

@@ -20,11 +20,12 @@
 --                        follows each reply; `over a m r`, the answer, the mark, the report
 --   talk m r p        == p as its host sees it, from the mark m and the report r
 --   End, end_of t ρ    == how a talk ends with the replies ρ
-use Rattle.std.specs.Prelude.{ℕ, zero, suc, ◌+◌, List, [], ◌∷◌, ◌&&◌}
+use Rattle.std.specs.Prelude.{ℕ, zero, suc, ◌+◌, List, [], ◌∷◌, ◌&&◌, Result}
 use Rattle.protocol.specs.Transfer.{Transfer, Reply, busy, is_row}
 use Rattle.protocol.specs.Tag.{user, user_memory}
 use Rattle.protocol.specs.Mark.{Mark}
 use Rattle.protocol.specs.Proc.{Proc, done, ask, mark, when◌then◌else◌}
+use Rattle.protocol.specs.declared.answer.TagError.{TagError}
 use Rattle.protocol.specs.declared.answer.Answer.{Answer}
 
 abbrev pub Replies : Type 0
@@ -89,15 +90,15 @@ report_on r (e ∷ es) = report_on (noted r e) es
 
 pub data Talk : Type 0 where
   asks : Mark → Transfer → (Reply → Talk) → Talk
-  over : Answer → Mark → Report → Talk
+  over : Result Answer TagError → Mark → Report → Talk
 
-abbrev pub talk : Mark → Report → Proc Answer → Talk
+abbrev pub talk : Mark → Report → Proc (Result Answer TagError) → Talk
 talk m r (done a) = over a m r
 talk m r (ask t k) = asks m t (λ x. talk m (noted r (record { transfer = t; reply = x })) (k x))
 talk m r (mark n p) = talk n r p
 
 pub record End : Type 0 where
-  pub answer : Answer
+  pub answer : Result Answer TagError
   pub mark : Mark
   pub report : Report
 

@@ -9,11 +9,12 @@ ghost use Rattle.stages.specs.Turns.{start_of};
 
 use machine::switch::Switch;
 use programming::write_new;
-use protocol::answer::{Answer, TagError};
+use protocol::answer::TagError;
 use stages::stage::{Stage, Turn};
 use turns::write_turn;
 
-// Whether n bytes at `at` end past the part. Nothing is added to `at` before it is known to be small.
+// Whether n bytes at `at` end past the part. Nothing is added to `at` before it is known to be small. The simulated part has a test of its own
+// (`incoming::inside`), so that a slip here shows there.
 pub fn past(at: usize, n: usize) -> bool
     ensures { result ≡ past at n }
 {
@@ -27,19 +28,19 @@ pub fn read_user(m: usize, at: usize, n: usize) -> Turn
     ensures { result ≡ start_of (call.read_user at n) m }
 {
     if past(at, n) {
-        Turn::Over(m, Answer::Not(TagError::NotTaken))
+        Turn::Over(m, Err(TagError::NotTaken))
     } else {
         Turn::Open(m, Stage::ReadUser(at, n))
     }
 }
 
 // The mark once n bytes at `at` may be non-zero.
+#[tactic(auto, unfolding(protocol::specs::Mark::widened))]
 fn widened(m: usize, at: usize, n: usize) -> usize
     requires { at + n ≤ 8192 }
     ensures { result ≡ widened m at (at + n) }
 {
-    let end = at + n;
-    if end < m { m } else { end }
+    m.max(at + n)
 }
 
 // The mark moves before the first row: a cut may leave any of the bytes.
@@ -48,7 +49,7 @@ pub fn write(m: usize, at: usize, lent: &[u8]) -> Turn
 {
     let n = lent.len();
     if past(at, n) {
-        return Turn::Over(m, Answer::Not(TagError::NotTaken));
+        return Turn::Over(m, Err(TagError::NotTaken));
     }
     write_turn(widened(m, at, n), write_new(at, n))
 }
@@ -59,6 +60,6 @@ pub fn read_whole(m: usize, n: usize) -> Turn
     if n == 8192 {
         Turn::Open(m, Stage::WholeOff(Switch::new(false)))
     } else {
-        Turn::Over(m, Answer::Not(TagError::NotTaken))
+        Turn::Over(m, Err(TagError::NotTaken))
     }
 }

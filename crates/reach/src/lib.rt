@@ -6,14 +6,14 @@ ghost use Rattle.scan.specs.Zeros.{high_water, Back};
 
 use scan::all_zero;
 
-// Back over the blocks of `w` zeros that end at `from`.
+// Back over the blocks of `w` zeros that end at `from`. The place that it comes to is the answer, so it is no block's number.
 fn back(s: &[u8], from: usize, w: usize) -> usize
     requires { (from ≤ length s.now) × (0 < w) }
     ensures { Back s.now result from }
 {
     let mut n = from;
     while w <= n {
-        if !all_zero(s, n - w, w) {
+        if !all_zero(&s[n - w..n]) {
             return n;
         }
         n -= w;
@@ -25,12 +25,11 @@ fn back(s: &[u8], from: usize, w: usize) -> usize
 fn searched(s: &[u8]) -> usize
     ensures { result ≡ high_water s.now }
 {
-    let mut n = back(s, back(s, s.len(), 64), 8);
-    while 0 < n {
-        if s[n - 1] != 0 {
-            return n;
+    let n = back(s, back(s, s.len(), 64), 8);
+    for k in (0..n).rev() {
+        if s[k] != 0 {
+            return k + 1;
         }
-        n -= 1;
     }
     0
 }

@@ -1,94 +1,64 @@
 // The reader's call: an image, and every record of its message with its parts, its text and its URI, and how the walk ended.
 #![tactic(auto)]
 
-use blocks::Message;
-use contents::Part;
-use lines::said;
-use lines::said::head;
-use records::Record;
-use slices::front;
-use walk::Entry;
+use lines::said::Said;
+use records::{Malformed, Record};
+use tlv::Span;
+use walk::Cursor;
 
-fn text(out: &mut [u8], at: usize, image: &[u8], r: Record) -> usize {
+fn text(said: &mut Said, image: &[u8], r: Record) {
     match contents::text(image, r) {
-        Part::At(place, len) => {
-            let a = said::text(out, at, b" text:");
-            said::bare_bytes(out, a, pieces::part(image, place, len))
+        Some(Span { at, len }) => {
+            said.text(b" text:");
+            said.bare_bytes(pieces::part(image, at, len));
         }
-        Part::Nothing => said::text(out, at, b" none"),
+        None => said.text(b" none"),
     }
 }
 
-fn uri(out: &mut [u8], at: usize, image: &[u8], r: Record) -> usize {
-    let link = links::uri(image, r);
-    let rest = link.rest;
-    let n = link.prefix.len;
-    let bytes = link.prefix.bytes;
-    match rest {
-        Part::At(place, len) => {
-            let a = said::text(out, at, b" uri:");
-            let b = said::bare_bytes(out, a, front(&bytes, n));
-            let d = said::text(out, b, b":");
-            said::bare_bytes(out, d, pieces::part(image, place, len))
+fn uri(said: &mut Said, image: &[u8], r: Record) {
+    match links::uri(image, r) {
+        Some(link) => {
+            said.text(b" uri:");
+            said.bare_bytes(link.prefix);
+            said.text(b":");
+            said.bare_bytes(pieces::part(image, link.rest.at, link.rest.len));
         }
-        Part::Nothing => said::text(out, at, b" none"),
+        None => said.text(b" none"),
     }
-}
-
-// A record's numbers and parts.
-fn parts(out: &mut [u8], at: usize, image: &[u8], r: Record) -> usize {
-    let a = said::bytes(out, at, kinds::kind(image, r));
-    let b = said::bytes(out, a, payloads::id(image, r));
-    said::bytes(out, b, payloads::payload(image, r))
 }
 
 // One record: format, last flag, type, id, payload, text, URI.
-fn record(out: &mut [u8], at: usize, image: &[u8], r: Record) -> usize {
-    let a = said::text(out, at, b" |");
-    let b = said::number(out, a, r.format as usize);
-    let d = said::number(out, b, r.last as usize);
-    let e = parts(out, d, image, r);
-    let h = text(out, e, image, r);
-    uri(out, h, image, r)
+fn record(said: &mut Said, image: &[u8], r: Record) {
+    said.text(b" |");
+    said.number(usize::from(r.format));
+    said.number(usize::from(r.last));
+    said.bytes(kinds::kind(image, r));
+    said.bytes(payloads::id(image, r));
+    said.bytes(payloads::payload(image, r));
+    text(said, image, r);
+    uri(said, image, r);
 }
 
-// The records from `from` on, and how the walk ended.
-fn walk(out: &mut [u8], at: usize, image: &[u8], from: usize, end: usize) -> usize {
-    let mut a = at;
-    let mut place = from;
-    let mut turn = 0;
-    while turn <= image.len() {
-        let s = walking::step(image, place, end);
-        let entry = s.entry;
-        place = s.next;
-        match entry {
-            Entry::Record(r) => {
-                a = record(out, a, image, r);
-            }
-            Entry::End => {
-                return said::text(out, a, b" | end");
-            }
-            Entry::Truncated => {
-                return said::text(out, a, b" | refused 13");
-            }
-            Entry::Chunked => {
-                return said::text(out, a, b" | refused 14");
-            }
+// The records of a message, and how the walk ended; each end is one text, so that it is left out whole where it does not fit.
+fn walk(said: &mut Said, image: &[u8], from: Cursor) {
+    let mut at = from.at;
+    for _ in 0..=image.len() {
+        let step = walking::step(image, at, from.end);
+        match step.entry {
+            Ok(Some(r)) => record(said, image, r),
+            Ok(None) => return said.text(b" | end"),
+            Err(Malformed::Truncated) => return said.text(b" | refused 13"),
+            Err(Malformed::Chunked) => return said.text(b" | refused 14"),
         }
-        turn += 1;
+        at = step.next;
     }
-    a
 }
 
-pub fn read(line: &[u8], out: &mut [u8], at: usize, image: &[u8]) -> usize {
-    match blocks::read(image) {
-        Message::At(place, len) => {
-            let a = head(line, out, at, 0);
-            let c = walk::start(Message::At(place, len));
-            walk(out, a, image, c.at, c.end)
-        }
-        Message::NoContainer => head(line, out, at, 11),
-        Message::NoMessage => head(line, out, at, 12),
-        Message::Truncated => head(line, out, at, 13),
+pub fn read(line: &[u8], said: &mut Said, image: &[u8]) {
+    let message = blocks::read(image);
+    said.head(line, u32::from(blocks::number(message)));
+    if message.is_ok() {
+        walk(said, image, walk::start(message));
     }
 }

@@ -1,14 +1,11 @@
 // One record of a message: where its parts stand.
 #![tactic(auto)]
 
-ghost use Rattle.std.specs.Prelude.{◌≡◌, true, ◌≤◌, ◌<◌, ◌^◌, get_or};
-ghost use Rattle.heads.specs.Heads.{flag};
-ghost use Rattle.records.specs.Parse.{whole_of, parse_of, number_of};
+ghost use Rattle.std.specs.Prelude.{◌≡◌, true, ◌<◌, ◌^◌};
+ghost use Rattle.records.specs.Parse.{inside, parse_of, end_of, malformed_number, number_of};
 ghost use Rattle.records.specs.Plain.{Plain, PlainOf};
 
 use heads::{head_len, id_len, payload_len};
-use slices::wide;
-
 // A record by its places: the type name stands at `kind`, the id right after it, then the payload.
 #[derive(Clone, Copy)]
 pub struct Record {
@@ -20,52 +17,46 @@ pub struct Record {
     pub payload_len: usize,
 }
 
-// What stands at the front of a message's bytes.
+// Why no record stands at the front of a message's bytes.
 #[derive(Clone, Copy)]
-pub enum Parsed {
-    Record(Record),
+pub enum Malformed {
     // 13: a length or a part is not all there.
     Truncated,
     // 14: a record split across several.
     Chunked,
 }
 
-// Document 01's number: 0 for a record.
-pub fn number(p: Parsed) -> u8
-    ensures { result ≡ number_of p }
-{
-    match p {
-        Parsed::Record(_) => 0,
-        Parsed::Truncated => 13,
-        Parsed::Chunked => 14,
+// Document 01's number.
+impl From<Malformed> for u8 {
+    ghost from_gives = { λ why n. n ≡ malformed_number why };
+
+    fn from(why: Malformed) -> u8 {
+        match why {
+            Malformed::Truncated => 13,
+            Malformed::Chunked => 14,
+        }
     }
 }
 
-// The record, once its lengths are known: 13 where its parts run past the bytes.
-fn whole(
-    s: &[u8],
-    h: u8,
-    last: bool,
-    kind: usize,
-    kind_len: usize,
-    id_len: usize,
-    payload_len: usize,
-) -> Parsed
-    requires last_value { (last ≡ flag 0x40 h) × (kind_len ≡ get_or s.now 1 0) }
-    requires kind_bound { (kind ≤ 7) × ((kind_len < 256) × ((id_len < 256) × (payload_len < 2 ^ 32))) }
-    ensures { result ≡ whole_of s.now h kind id_len payload_len }
+// Document 01's number: 0 for a record.
+pub fn number(p: Result<Record, Malformed>) -> u8
+    ensures { result ≡ number_of p }
 {
-    if s.len() < kind + kind_len + id_len + payload_len {
-        return Parsed::Truncated;
+    match p {
+        Ok(_) => 0,
+        Err(why) => why.into(),
     }
-    Parsed::Record(Record {
-        format: h % 8,
-        last,
-        kind,
-        kind_len,
-        id_len,
-        payload_len,
-    })
+}
+
+// A record where its parts are all there; 13 where they run past the bytes.
+fn whole(s: &[u8], r: Record) -> Result<Record, Malformed>
+    requires { end_of r < 2 ^ 64 }
+    ensures { result ≡ inside s.now r }
+{
+    if s.len() < r.kind + r.kind_len + r.id_len + r.payload_len {
+        return Err(Malformed::Truncated);
+    }
+    Ok(r)
 }
 
 // Most records are short, have no id and are not the last. So is the one at the front of `bytes`, and its head is all there.
@@ -79,37 +70,49 @@ pub fn is_plain(bytes: &[u8]) -> bool
 }
 
 // Such a record, once its lengths have been read. By itself, so that the compiler knows of it that another follows.
-pub fn plain_record(bytes: &[u8], kind_len: u8, payload_len: u8) -> Parsed
+#[tactic(auto, using(crate::proofs::Records::short_way))]
+pub fn plain_record(bytes: &[u8], kind_len: u8, payload_len: u8) -> Result<Record, Malformed>
     requires { PlainOf bytes.now kind_len payload_len }
     ensures { result ≡ parse_of bytes.now }
 {
     whole(
         bytes,
-        bytes[0],
-        false,
-        3,
-        wide(kind_len),
-        0,
-        wide(payload_len),
+        Record {
+            format: bytes[0] % 8,
+            last: false,
+            kind: 3,
+            kind_len: usize::from(kind_len),
+            id_len: 0,
+            payload_len: usize::from(payload_len),
+        },
     )
 }
 
 // The record at the front of `bytes`.
-pub fn parse_record(bytes: &[u8]) -> Parsed
+#[tactic(auto, using(heads::proofs::Heads::head_least, crate::proofs::Records::none), unfolding(crate::specs::Parse::whole_of, crate::specs::Parse::parse_of))]
+pub fn parse_record(bytes: &[u8]) -> Result<Record, Malformed>
     ensures { result ≡ parse_of bytes.now }
 {
     if bytes.len() == 0 {
-        return Parsed::Truncated;
+        return Err(Malformed::Truncated);
     }
     let h = bytes[0];
     if h / 32 % 2 == 1 {
-        return Parsed::Chunked;
+        return Err(Malformed::Chunked);
     }
     let kind = head_len(h);
     if bytes.len() < kind {
-        return Parsed::Truncated;
+        return Err(Malformed::Truncated);
     }
-    let id = id_len(bytes, h);
-    let payload = payload_len(bytes, h);
-    whole(bytes, h, h / 64 % 2 == 1, kind, wide(bytes[1]), id, payload)
+    whole(
+        bytes,
+        Record {
+            format: h % 8,
+            last: h / 64 % 2 == 1,
+            kind,
+            kind_len: usize::from(bytes[1]),
+            id_len: id_len(bytes, h),
+            payload_len: payload_len(bytes, h),
+        },
+    )
 }

@@ -6,32 +6,28 @@ ghost use Rattle.part.specs.Part.{byte_at, with_rf, with_session, with_reported,
 
 use part::registers::{Cycle, Registers};
 
-pub fn switched(mut r: Registers, rf: u8) -> Registers
+pub fn switched(r: Registers, rf: u8) -> Registers
     ensures { result ≡ with_rf rf r }
 {
-    r.rf = rf;
-    r
+    Registers { rf, ..r }
 }
 
-pub fn opened(mut r: Registers) -> Registers
+pub fn opened(r: Registers) -> Registers
     ensures { result ≡ with_session true r }
 {
-    r.session = true;
-    r
+    Registers { session: true, ..r }
 }
 
-pub fn noted(mut r: Registers, reported: bool) -> Registers
+pub fn noted(r: Registers, reported: bool) -> Registers
     ensures { result ≡ with_reported reported r }
 {
-    r.reported = reported;
-    r
+    Registers { reported, ..r }
 }
 
-pub fn left(mut r: Registers, ms: u8) -> Registers
+pub fn left(r: Registers, ms: u8) -> Registers
     ensures { result ≡ with_busy ms r }
 {
-    r.busy = ms;
-    r
+    Registers { busy: ms, ..r }
 }
 
 // A cycle of `ms` milliseconds begins, cut to the longest.
@@ -39,14 +35,9 @@ pub fn begun(r: Registers, ms: u8, cycle: Cycle) -> Registers
     ensures { result ≡ with_cycle ms cycle r }
 {
     Registers {
-        gpo1: r.gpo1,
-        mngt: r.mngt,
-        cfg: r.cfg,
-        rf: r.rf,
-        session: r.session,
-        reported: r.reported,
-        busy: if ms < 99 { ms } else { 99 },
+        busy: ms.min(99),
         cycle,
+        ..r
     }
 }
 
@@ -54,23 +45,19 @@ pub fn begun(r: Registers, ms: u8, cycle: Cycle) -> Registers
 pub fn byte_of(r: Registers, at: usize) -> u8
     ensures { result ≡ byte_at at r }
 {
-    if at == 0 {
-        return r.gpo1;
+    match at {
+        0 => r.gpo1,
+        3 => r.mngt,
+        _ => r.cfg,
     }
-    if at == 3 { r.mngt } else { r.cfg }
 }
 
-pub fn with_byte(mut r: Registers, at: usize, v: u8) -> Registers
+pub fn with_byte(r: Registers, at: usize, v: u8) -> Registers
     ensures { result ≡ with_byte at v r }
 {
-    if at == 0 {
-        r.gpo1 = v;
-        return r;
+    match at {
+        0 => Registers { gpo1: v, ..r },
+        3 => Registers { mngt: v, ..r },
+        _ => Registers { cfg: v, ..r },
     }
-    if at == 3 {
-        r.mngt = v;
-        return r;
-    }
-    r.cfg = v;
-    r
 }

@@ -1,9 +1,8 @@
 // A reply is taken, on the lent state and buffers: the 64-bit step (telling/specs/Step) is returned, and what telling/specs/Left says is left.
 #![tactic(auto)]
 
-ghost use Rattle.std.specs.Prelude.{length};
+ghost use Rattle.std.specs.Prelude.{length, Ok};
 ghost use Rattle.telling.specs.Left.{Leaves, replied_left, reply_left};
-ghost use Rattle.telling.specs.declared.opening.Heard.TheVariants.{Goes};
 ghost use Rattle.entry.specs.Going.{Going};
 
 use counting::stage_count;
@@ -11,14 +10,11 @@ use hearing::heard_at;
 use leaving::leave;
 use settling::settle;
 use shortcut::next_of;
-use stages::stage::Stage;
 use state::bytes::STATE_LEN;
 use steps::stage_step;
 use sweeping::{clean_of, sweep};
 use telling::opening::Heard;
 use telling::step::step;
-use wiping::short::Next;
-use wiping::sweep::Swept;
 
 // The call goes on from the stage that waited on this reply.
 fn go_on(
@@ -28,15 +24,13 @@ fn go_on(
     lent: &[u8],
     out: &[u8],
     ack: bool,
-    m: usize,
-    rows: usize,
-    st: Stage,
+    h: Heard,
 ) -> u64
-    requires { Going (length state.old) (length transfer.old) (length reply.old) (length lent.now) (length out.now) m rows st }
-    ensures { Leaves (replied_left (Goes m rows st) state.old transfer.old reply.old lent.now out.now ack) result state.new transfer.new reply.new }
+    requires { Going (length state.old) (length transfer.old) (length reply.old) (length lent.now) (length out.now) h }
+    ensures { Leaves (replied_left (Ok h) state.old transfer.old reply.old lent.now out.now ack) result state.new transfer.new reply.new }
 {
-    let n = rows + stage_count(st, ack);
-    let t = stage_step(st, m, ack, reply, lent, out);
+    let n = h.rows + stage_count(h.stage, ack);
+    let t = stage_step(h.stage, h.mark, ack, reply, lent, out);
     settle(state, transfer, reply, lent, n, t)
 }
 
@@ -53,8 +47,8 @@ fn by_stage(
 {
     let h = heard_at(state, transfer.len(), reply.len(), lent.len(), out.len());
     match h {
-        Heard::Goes(m, rows, st) => go_on(state, transfer, reply, lent, out, ack != 0, m, rows, st),
-        Heard::Not(n) => step(0, n, 0, 0),
+        Ok(h) => go_on(state, transfer, reply, lent, out, ack != 0, h),
+        Err(e) => step(0, u8::from(e), 0, 0),
     }
 }
 
@@ -71,13 +65,14 @@ fn by_way(
 {
     let n = next_of(state, transfer, reply, lent, out, ack);
     match n {
-        Next::To(f, s) => leave(state, transfer, f, s),
-        Next::Not => by_stage(state, transfer, reply, lent, out, ack),
+        Some(n) => leave(state, transfer, n.flat, n.wipe),
+        None => by_stage(state, transfer, reply, lent, out, ack),
     }
 }
 
 // A reply: 0 for refused, any other number for acknowledged. A clean chunk is looked for first; the rest is called from two places, so that
 // the compiler leaves it out of here, and with it what it keeps on the stack.
+// The buffers are no struct: C lends each by itself, so that each export would have to make one.
 pub fn reply(
     state: &mut [u8],
     transfer: &mut [u8],
@@ -97,8 +92,8 @@ pub fn reply(
     {
         let n = clean_of(state, reply);
         return match n {
-            Swept::To(p) => sweep(state, transfer, p),
-            Swept::Not => by_way(state, transfer, reply, lent, out, ack),
+            Some(p) => sweep(state, transfer, p),
+            None => by_way(state, transfer, reply, lent, out, ack),
         };
     }
     by_way(state, transfer, reply, lent, out, ack)

@@ -1,4 +1,5 @@
-// The session that numbers are, whatever they are: `flatten` then tells whether they are its own.
+// The session that numbers are, whatever they are: `flatten` then tells whether they are its own. Kinds are numbers here because C lends a
+// state as twenty bytes.
 #![tactic(auto)]
 
 ghost use Rattle.std.specs.Prelude.{◌≡◌};
@@ -8,7 +9,7 @@ use machine::switch::Switch;
 use machine::wait::Wait;
 use numbers::flat::{Code, Flat, Place};
 use password::Open;
-use session::session::{Now, Session};
+use session::session::Session;
 use setup::setup::{Job, Setup};
 use stages::stage::Stage;
 use storing::Store;
@@ -18,84 +19,65 @@ use writing::write::{Check, Piece, Write};
 pub fn wait_from(c: Code) -> Wait
     ensures { result ≡ wait_from c }
 {
-    if c.inner == 1 {
-        Wait::Poll(c.count)
-    } else {
-        Wait::Pause(c.count)
+    match c.inner {
+        1 => Wait::Poll(c.count),
+        _ => Wait::Pause(c.count),
     }
 }
 
 fn open_from(c: Code) -> Open
     ensures { result ≡ open_from c }
 {
-    if c.inner == 3 {
-        return Open::Present;
+    match c.inner {
+        3 => Open::Present,
+        4 => Open::Look,
+        _ => Open::Wait(wait_from(c)),
     }
-    if c.inner == 4 {
-        return Open::Look;
-    }
-    Open::Wait(wait_from(c))
 }
 
 fn job_from(c: Code) -> Job
     ensures { result ≡ job_from c }
 {
-    if c.which == 1 {
-        return Job::Config;
+    match c.which {
+        1 => Job::Config,
+        2 => Job::Sleep,
+        _ => Job::Events,
     }
-    if c.which == 2 {
-        return Job::Sleep;
-    }
-    Job::Events
 }
 
 fn store_from(c: Code) -> Store
     ensures { result ≡ store_from c }
 {
-    if c.inner == 3 {
-        return Store::Send;
+    match c.inner {
+        3 => Store::Send,
+        4 => Store::Pause,
+        5 => Store::Look,
+        _ => Store::Wait(wait_from(c)),
     }
-    if c.inner == 4 {
-        return Store::Pause;
-    }
-    if c.inner == 5 {
-        return Store::Look;
-    }
-    Store::Wait(wait_from(c))
 }
 
 pub fn setup_from(c: Code) -> Setup
     ensures { result ≡ setup_from c }
 {
-    if c.phase == 1 {
-        return Setup::Identify;
+    match c.phase {
+        1 => Setup::Identify,
+        2 => Setup::Config,
+        3 => Setup::Events,
+        4 => Setup::Open(c.which == 1, open_from(c)),
+        _ => Setup::Store(job_from(c), store_from(c)),
     }
-    if c.phase == 2 {
-        return Setup::Config;
-    }
-    if c.phase == 3 {
-        return Setup::Events;
-    }
-    if c.phase == 4 {
-        return Setup::Open(c.which == 1, open_from(c));
-    }
-    Setup::Store(job_from(c), store_from(c))
 }
 
 pub fn switch_from(c: Code) -> Switch
     ensures { result ≡ switch_from c }
 {
     let on = c.which == 1;
-    if c.phase == 1 {
-        return Switch::Flip(on, c.count);
+    match c.phase {
+        1 => Switch::Flip(on, c.count),
+        2 => Switch::Clear(c.count),
+        3 => Switch::Look(on, c.count),
+        _ => Switch::Rest(on, c.count),
     }
-    if c.phase == 2 {
-        return Switch::Clear(c.count);
-    }
-    if c.phase == 3 {
-        return Switch::Look(on, c.count);
-    }
-    Switch::Rest(on, c.count)
 }
 
 pub fn chunk_from(p: Place) -> Chunk
@@ -123,16 +105,12 @@ pub fn rows_from(p: Place) -> Rows
 pub fn scrub_from(c: Code, p: Place) -> Scrub
     ensures { result ≡ scrub_from c p }
 {
-    if c.phase == 1 {
-        return Scrub::Read(chunk_from(p));
+    match c.phase {
+        1 => Scrub::Read(chunk_from(p)),
+        2 => Scrub::Row(chunk_from(p), rows_from(p)),
+        3 => Scrub::Wait(chunk_from(p), rows_from(p), wait_from(c)),
+        _ => Scrub::Reread(chunk_from(p)),
     }
-    if c.phase == 2 {
-        return Scrub::Row(chunk_from(p), rows_from(p));
-    }
-    if c.phase == 3 {
-        return Scrub::Wait(chunk_from(p), rows_from(p), wait_from(c));
-    }
-    Scrub::Reread(chunk_from(p))
 }
 
 fn piece_from(p: Place) -> Piece
@@ -159,91 +137,63 @@ fn check_from(c: Code, p: Place) -> Check
 pub fn write_from(c: Code, p: Place) -> Write
     ensures { result ≡ write_from c p }
 {
-    if c.phase == 1 {
-        return Write::Row(piece_from(p));
+    match c.phase {
+        1 => Write::Row(piece_from(p)),
+        2 => Write::Wait(piece_from(p), wait_from(c)),
+        _ => Write::Check(check_from(c, p)),
     }
-    if c.phase == 2 {
-        return Write::Wait(piece_from(p), wait_from(c));
-    }
-    Write::Check(check_from(c, p))
 }
 
 // Stages 2 to 7.
 fn start_from(tag: u8, c: Code, p: Place) -> Stage
     ensures { result ≡ start_from tag c p }
 {
-    if tag == 2 {
-        return Stage::Identify;
+    match tag {
+        2 => Stage::Identify,
+        3 => Stage::Prepare(setup_from(c)),
+        4 => Stage::WaitReady(wait_from(c)),
+        5 => Stage::ReadUser(p.at, p.end),
+        6 => Stage::Write(write_from(c, p)),
+        _ => Stage::Switching(switch_from(c)),
     }
-    if tag == 3 {
-        return Stage::Prepare(setup_from(c));
-    }
-    if tag == 4 {
-        return Stage::WaitReady(wait_from(c));
-    }
-    if tag == 5 {
-        return Stage::ReadUser(p.at, p.end);
-    }
-    if tag == 6 {
-        return Stage::Write(write_from(c, p));
-    }
-    Stage::Switching(switch_from(c))
 }
 
 // Stages 8 to 13.
 fn whole_from(tag: u8, c: Code, p: Place) -> Stage
     ensures { result ≡ whole_from tag c p }
 {
-    if tag == 8 {
-        return Stage::RfWrote;
+    match tag {
+        8 => Stage::RfWrote,
+        9 => Stage::WholeOff(switch_from(c)),
+        10 => Stage::WholeStatus,
+        11 => Stage::WholeRead,
+        12 => Stage::Wipe(scrub_from(c, p)),
+        _ => Stage::BeginSetup(setup_from(c)),
     }
-    if tag == 9 {
-        return Stage::WholeOff(switch_from(c));
-    }
-    if tag == 10 {
-        return Stage::WholeStatus;
-    }
-    if tag == 11 {
-        return Stage::WholeRead;
-    }
-    if tag == 12 {
-        return Stage::Wipe(scrub_from(c, p));
-    }
-    Stage::BeginSetup(setup_from(c))
 }
 
 // Stages 14 to 18.
 fn end_from(tag: u8, c: Code, p: Place) -> Stage
     ensures { result ≡ end_from tag c p }
 {
-    if tag == 14 {
-        return Stage::BeginOff(switch_from(c));
+    match tag {
+        14 => Stage::BeginOff(switch_from(c)),
+        15 => Stage::LiveStatus,
+        16 => Stage::FinishOff(switch_from(c)),
+        17 => Stage::FinishStatus(c.which == 1),
+        _ => Stage::FinishWipe(c.which == 1, scrub_from(c, p)),
     }
-    if tag == 15 {
-        return Stage::LiveStatus;
-    }
-    if tag == 16 {
-        return Stage::FinishOff(switch_from(c));
-    }
-    if tag == 17 {
-        return Stage::FinishStatus(c.which == 1);
-    }
-    Stage::FinishWipe(c.which == 1, scrub_from(c, p))
 }
 
-fn now_from(tag: u8, c: Code, p: Place) -> Now
+fn now_from(tag: u8, c: Code, p: Place) -> Option<Stage>
     ensures { result ≡ now_from tag c p }
 {
-    if tag < 2 {
-        return Now::Idle;
+    match tag {
+        0..=1 => None,
+        2..=7 => Some(start_from(tag, c, p)),
+        8..=13 => Some(whole_from(tag, c, p)),
+        _ => Some(end_from(tag, c, p)),
     }
-    if tag < 8 {
-        return Now::Open(start_from(tag, c, p));
-    }
-    if tag < 14 {
-        return Now::Open(whole_from(tag, c, p));
-    }
-    Now::Open(end_from(tag, c, p))
 }
 
 pub fn session_from(f: Flat) -> Session

@@ -4,7 +4,7 @@
 ghost use Rattle.std.specs.Prelude.{◌≡◌};
 ghost use Rattle.session.specs.Steps.{entered, out_of};
 
-use session::session::{Now, Session};
+use session::session::Session;
 use stages::stage::{Stage, Turn};
 
 pub fn entered(rows: usize, lent: usize, t: Turn) -> Session
@@ -15,13 +15,13 @@ pub fn entered(rows: usize, lent: usize, t: Turn) -> Session
             mark,
             rows,
             lent,
-            now: Now::Open(st),
+            now: Some(st),
         },
         Turn::Over(mark, _) => Session {
             mark,
             rows: 0,
             lent: 0,
-            now: Now::Idle,
+            now: None,
         },
     }
 }

@@ -1,31 +1,38 @@
 // A power cut at this moment, on a copy of the part: power comes back, a new session recovers with `begin`, and what is left is counted.
 use crate::attempt::{STEPS, attempt};
-use slices::copy_to;
-use stand::bench::{Bench, Identity, Memory, apart};
+use stand::bench::{Bench, Tile};
 use stand::chance;
 use stand::left::left;
 use stand::plug::{cut, pace_of};
-use stand::tally::{Tally, tallied};
+use stand::tally::{Cut, Tally};
 
 // One recovery in eight is cut as well, somewhere in its first 4,096 steps.
-fn recovered(c: Bench, again: bool, identity: &Identity, memory: &mut Memory) -> Bench {
+fn recovered(c: Bench, again: bool, tile: &mut Tile) -> Bench {
     if again {
         let fuel = chance::below(c.chance, 4096) as usize;
-        let e = attempt(c, fuel, identity, memory);
-        let d = cut(e, e.pace, memory);
-        return attempt(d, STEPS, identity, memory);
+        let e = attempt(c, fuel, tile);
+        let d = cut(e, e.pace, tile);
+        return attempt(d, STEPS, tile);
     }
-    attempt(c, STEPS, identity, memory)
+    attempt(c, STEPS, tile)
 }
 
-// The session's own bench and memory stay as they are.
-pub fn trial(b: Bench, delayed: bool, identity: &Identity, memory: &Memory, t: Tally) -> Tally {
-    let mut copy = [0u8; 8192];
-    copy_to(&mut copy, 0, memory);
-    let r = b.registers;
-    let x = chance::next(t.chance);
-    let c = cut(apart(b, x), pace_of(t.cuts, x), &mut copy);
+// The session's own bench and tile stay as they are.
+pub fn trial(b: Bench, delayed: bool, tile: &Tile, tally: &mut Tally) {
+    let mut copy = *tile;
+    let x = chance::next(tally.chance);
+    let apart = Bench {
+        chance: x,
+        carried: 0,
+        ..b
+    };
+    let c = cut(apart, pace_of(tally.cuts, x), &mut copy);
     let again = chance::rarely(c.chance, 8);
-    let e = recovered(c, again, identity, &mut copy);
-    tallied(t, delayed, r.busy != 0, again, e, left(&copy))
+    let e = recovered(c, again, &mut copy);
+    let this = Cut {
+        delayed,
+        cycling: b.registers.busy != 0,
+        again,
+    };
+    tally.add(this, e, left(&copy.memory));
 }

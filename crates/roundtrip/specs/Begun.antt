@@ -4,7 +4,7 @@
 --   begins                         == the bytes that the begin call of a record writes
 --   Begun head rest out o₁ o₂ o₃   == o₁ is the buffer after the front and `head`, o₂ after `rest` was put there, o₃ closed
 --   begun-is-whole                 == o₃ is then the buffer that the whole builder leaves
-use Rattle.std.specs.Prelude.{◌≡◌, List, ◌++◌, ℕ, ◌+◌, ◌≤◌, length}
+use Rattle.std.specs.Prelude.{◌≡◌, Ok, List, ◌++◌, ℕ, ◌+◌, ◌≤◌, length}
 use Rattle.std.proofs.Common.{ap, ◌∙◌, arith, length-append}
 use Rattle.slices.specs.Bytes.{Wrote}
 use Rattle.slices.proofs.Splice.{chain, splice_front}
@@ -14,7 +14,6 @@ use Rattle.layout.specs.Block.{terminator}
 use Rattle.layout.specs.Image.{front, image}
 use Rattle.layout.proofs.Images.{front_length}
 use Rattle.joins.proofs.Pieces.{pieces}
-use Rattle.layout.specs.declared.refusal.Verdict.TheVariants.{Fits}
 use Rattle.judging.specs.Judge.{after}
 
 module _ (area format : ℕ) (kind head rest : List ℕ) where
@@ -29,7 +28,7 @@ module _ (area format : ℕ) (kind head rest : List ℕ) where
     pub closed : Wrote o₂ end terminator o₃ close
 
   pub begun-is-whole : {out o₁ o₂ o₃ : List ℕ} {place end close : ℕ} → Begun out o₁ o₂ o₃ place end close
-      → o₃ ≡ after Fits (image area (whole format kind (head ++ rest))) out
+      → o₃ ≡ after (Ok tt) (image area (whole format kind (head ++ rest))) out
   begun-is-whole {out} b =
       let n = front_length area format kind (length head + length rest) in
       let l = length-append (front area format kind (length head + length rest)) head in
@@ -39,4 +38,4 @@ module _ (area format : ℕ) (kind head rest : List ℕ) where
       let w = chain (omega arith) (chain (omega arith) b.opened b.filled) b.closed in
       w.bytes
       ∙ splice_front out (front area format kind (length head + length rest) ++ head ++ rest ++ terminator)
-      ∙ ap (λ (bs : List ℕ). after Fits bs out) (pieces area format kind head rest)
+      ∙ ap (λ (bs : List ℕ). after (Ok tt) bs out) (pieces area format kind head rest)

@@ -26,7 +26,7 @@ use Rattle.slices.specs.Pick.{pick}
 use Rattle.slices.specs.Bytes.{be}
 use Rattle.slices.proofs.Cases.{lt_or_ge}
 use Rattle.utf8.specs.Utf8.{utf8}
-use Rattle.uri.specs.Prefixes.{prefix_answer}
+use Rattle.uri.specs.Prefixes.{prefixes, prefix_answer}
 use Rattle.layout.specs.Lengths.{record_len}
 use Rattle.layout.specs.Container.{container}
 use Rattle.layout.specs.Block.{block_length, message_head, message, terminator}
@@ -35,30 +35,27 @@ use Rattle.layout.specs.Payload.{well_known, text_kind, uri_kind, text_payload, 
 use Rattle.layout.specs.Image.{image_of, image, text_image, uri_image}
 use Rattle.layout.proofs.Images.{container-length, record_length}
 use Rattle.layout.proofs.Sizes.{record_is}
-use Rattle.blocks.specs.declared.Message.TheVariants.{At}
 use Rattle.blocks.specs.Read.{read_of}
 use Rattle.grammar.specs.Blocks.{Head, large, Size, one, three, none, Stops}
 use Rattle.grammar.specs.Blocks as grammar
 use Rattle.grammar.proofs.BlocksComplete.{head_read, passes_read}
+use Rattle.blocks.specs.Read as read
+use Rattle.std.specs.Prelude.{Option, Some, None, Ok, get_or}
 use Rattle.records.specs.declared.Record.{Record}
-use Rattle.records.specs.declared.Parsed.TheVariants as parsed
 use Rattle.records.specs.Parse.{parse_of, end_of}
 use Rattle.pieces.specs.Parts.{part_of, kind_of, id_of, payload_of}
 use Rattle.grammar.specs.Records.{Allowed, head_of, places_of}
 use Rattle.grammar.proofs.RecordsComplete.{complete, kind_there, id_there, payload_there, bytes-length}
 use Rattle.pieces.proofs.Parts.{part-inside, part_outside}
 use Rattle.grammar.proofs.RecordsExactly.{is_exactly}
-use Rattle.walk.specs.declared.Entry.{Entry}
-use Rattle.walk.specs.declared.Entry.TheVariants as entry
 use Rattle.walk.specs.declared.Stepped.{Stepped}
-use Rattle.walk.specs.Step.{left, shift, step_of, on_parsed}
+use Rattle.walk.specs.Step.{Entry, left, shift, step_of, on_parsed}
 use Rattle.walk.specs.Walked.{Walked, ended, before, listing, walked, on_step}
 use Rattle.walk.proofs.Walks.{walked_step}
-use Rattle.contents.specs.declared.Part.{Part}
-use Rattle.contents.specs.declared.Part.TheVariants as part
-use Rattle.links.specs.declared.Link.{Link}
+use Rattle.tlv.specs.declared.Span.{Span}
+use Rattle.tlv.specs.Blocks.{span}
 use Rattle.contents.specs.Contents.{payload_at, text_in, text_of}
-use Rattle.links.specs.Links.{uri_in, uri_of}
+use Rattle.links.specs.Links.{Uri, uri_in, uri_of}
 use Rattle.contents.proofs.Cases.{part_there}
 use Rattle.roundtrip.specs.Differ.{rests}
 
@@ -66,7 +63,7 @@ abbrev pub body_at : Fields → ℕ
 body_at r = 8 + length (message_head (length (record_bytes r)))
 
 pub record ReadsBack (img : List ℕ) (r : Fields) : Type 0 where
-  pub found : read_of img ≡ At (body_at r) (length (record_bytes r))
+  pub found : read_of img ≡ read.found (body_at r) (length (record_bytes r))
   pub places : Record
   pub alone : walked img (body_at r) (body_at r + length (record_bytes r)) ≡ listing (places ∷ []) ended
   pub format : places.format ≡ r.format
@@ -132,19 +129,19 @@ module _ (area : ℕ) (body : List ℕ) where
   split_at = omega (arith, length-append (container area) (message_head (length body)), container-length area)
 
   -- the message of an image is its body
-  message-found : length body ≤ 65535 → read_of (image_of area body) ≡ At (8 + length (message_head (length body))) (length body)
+  message-found : length body ≤ 65535 → read_of (image_of area body) ≡ read.found (8 + length (message_head (length body))) (length body)
   unfolding message_head
   message-found h =
       let tail : List ℕ = 0x03 ∷ (block_length (length body) ++ (body ++ terminator)) in
       let c = container-length area in
       let p : length (container area) + 0 + (1 + length (block_length (length body))) ≡ 8 + suc (length (block_length (length body))) = omega arith in
-      let s : Stops tail (length (container area) + 0) (At (length (container area) + 0 + (1 + length (block_length (length body)))) (length body)) =
+      let s : Stops tail (length (container area) + 0) (read.found (length (container area) + 0 + (1 + length (block_length (length body)))) (length body)) =
       grammar.message body terminator (size_of (length body) h) in
       ap read_of image-is
       ∙ head_read (container area) tail (area_head area)
-      ∙ passes_read (container area ++ tail) [] tail (length (container area)) (At (length (container area) + 0 + (1 + length (block_length (length body)))) (length body)) none
+      ∙ passes_read (container area ++ tail) [] tail (length (container area)) (read.found (length (container area) + 0 + (1 + length (block_length (length body)))) (length body)) none
       (drop_at (container area) tail (length (container area)) refl) s
-      ∙ ap (λ (n : ℕ). At n (length body)) p
+      ∙ ap (λ (n : ℕ). read.found n (length body)) p
 
 -- a record has a head
 head-some : (r : Fields) → 0 < length (head_of r)
@@ -171,15 +168,15 @@ module _ (area : ℕ) (r : Fields) (ok : Allowed r) (one_block : length (record_
 
   -- the step at the record finds it, and the next place is the end
   step_there : step_of (image area r) (body_at r) (body_at r + length (record_bytes r))
-      ≡ on_parsed (body_at r) (body_at r + length (record_bytes r)) (parsed.Record (places_of r))
+      ≡ on_parsed (body_at r) (body_at r + length (record_bytes r)) (Ok (places_of r))
   unfolding step_of
   step_there =
-      let e : parse_of (left (image area r) (body_at r) (body_at r + length (record_bytes r))) ≡ parsed.Record (places_of r) =
+      let e : parse_of (left (image area r) (body_at r) (body_at r + length (record_bytes r))) ≡ Ok (places_of r) =
       ap parse_of (body-left ∙ sym (append-nil (record_bytes r))) ∙ complete r [] ok in
       let k : body_at r < body_at r + length (record_bytes r) = omega (arith, bytes-length r, head-some r) in
       simp (le-ltb _ _ inside, lt-leb _ _ k, e)
 
-  step_end : (step_of (image area r) (body_at r + length (record_bytes r)) (body_at r + length (record_bytes r))).entry ≡ entry.End
+  step_end : (step_of (image area r) (body_at r + length (record_bytes r)) (body_at r + length (record_bytes r))).entry ≡ Ok None
   unfolding step_of
   step_end =
       let k : body_at r + length (record_bytes r) ≤ body_at r + length (record_bytes r) = omega arith in
@@ -231,14 +228,16 @@ module _ (area format : ℕ) (kind payload : List ℕ) (f : format < 8) (k : len
       (omega (arith, record_length format kind payload)) refl
 
 -- the part p of img is the bytes t
-pub data Says (img : List ℕ) : Part → List ℕ → Type 0 where
-  says : {at : ℕ} {t : List ℕ} → part_of img at (length t) ≡ t → Says img (part.At at (length t)) t
+pub data Says (img : List ℕ) : Option Span → List ℕ → Type 0 where
+  says : {at : ℕ} {t : List ℕ} → part_of img at (length t) ≡ t → Says img (Some (span at (length t))) t
 
 -- the link l of img has this code, the code's prefix, and the bytes t for the rest
-pub record Linked (img : List ℕ) (l : Link) (c : ℕ) (t : List ℕ) : Type 0 where
-  pub rest : Says img l.rest t
-  pub code : l.code ≡ c
-  pub prefix : l.prefix ≡ (prefix_answer c).prefix
+pub record Linked (img : List ℕ) (l : Option Uri) (c : ℕ) (t : List ℕ) : Type 0 where
+  pub uri : Uri
+  pub there : l ≡ Some uri
+  pub rest : Says img (Some uri.rest) t
+  pub code : uri.code ≡ c
+  pub prefix : Some uri.prefix ≡ prefix_answer c
 
 module _ (img : List ℕ) (p : Record) (well-known : p.format ≡ 1) where
   text_said : (t : List ℕ) → kind_of img p ≡ text_kind → payload_of img p ≡ text_payload english t → utf8 t ≡ true → Says img (text_of img p) t
@@ -252,16 +251,18 @@ module _ (img : List ℕ) (p : Record) (well-known : p.format ≡ 1) where
 
   uri_said : (code : ℕ) (t : List ℕ) → kind_of img p ≡ uri_kind → payload_of img p ≡ uri_payload code t → code ≤ 35 → utf8 t ≡ true
       → Linked img (uri_of img p) code t
-  unfolding uri_of uri_in uri_payload
+  unfolding uri_of uri_in uri_payload prefix_answer
   uri_said code t k e c u =
       let is = (is_exactly img p 0x55).1 (well-known, k) in
       let n : p.payload_len ≡ 1 + length t = payload-length img p (code ∷ []) t (omega arith) e in
-      rw (is, e)
-      (simp (le-leb code 35 c, u) (record {
+      let small : code < 36 = omega arith in
+      record {
+        uri = record { rest = span (payload_at p + 1) (length t); code = code; prefix = get_or prefixes code [] };
+        there = rw (is, e) (simp (lt-ltb code 36 small, u));
         rest = says (part-rest img (payload_at p) (code ∷ []) t (omega arith) p.payload_len e n);
         code = refl;
-        prefix = refl;
-      }))
+        prefix = simp (lt-ltb code 36 small);
+      }
 
 -- The record that an image of a text reads back as: `text` gives the text.
 pub text_back : (area : ℕ) (t : List ℕ) (b : ReadsBack (text_image area t) (whole well_known text_kind (text_payload english t))) → utf8 t ≡ true
@@ -281,9 +282,10 @@ pub record Same (r q : Fields) : Type 0 where
 
 pub one_record : (img : List ℕ) (r q : Fields) → ReadsBack img r → ReadsBack img q → Same r q
 one_record img r q b c =
-    let m : At (body_at r) (length (record_bytes r)) ≡ At (body_at q) (length (record_bytes q)) = sym b.found ∙ c.found in
-    let at : body_at r ≡ body_at q = cc in
-    let n : length (record_bytes r) ≡ length (record_bytes q) = cc in
+    let m : read.found (body_at r) (length (record_bytes r)) ≡ read.found (body_at q) (length (record_bytes q)) = sym b.found ∙ c.found in
+    let f : span (body_at r) (length (record_bytes r)) ≡ span (body_at q) (length (record_bytes q)) = cc in
+    let at : body_at r ≡ body_at q = ap (λ (b : Span). b.at) f in
+    let n : length (record_bytes r) ≡ length (record_bytes q) = ap (λ (b : Span). b.len) f in
     let w : listing (b.places ∷ []) ended ≡ listing (c.places ∷ []) ended =
     sym b.alone ∙ ap₂ (λ (x y : ℕ). walked img x (x + y)) at n ∙ c.alone in
     let l : b.places ∷ [] ≡ c.places ∷ [] = ap (λ (x : Walked). x.records) w in

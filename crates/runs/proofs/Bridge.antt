@@ -5,6 +5,7 @@ use mathlib.Core.Bool.{Bool, true, false}
 use Prim.Native.Nat.{ℕ, ◌+◌}
 use lib.Dec.{eqb}
 use lib.ListN.{length, take}
+use Rattle.std.specs.Prelude.{Result, Ok, Err, Some, None}
 use Rattle.slices.specs.Pick.{pick}
 use Rattle.protocol.specs.Transfer.{Transfer, Reply}
 use Rattle.protocol.specs.Tag.{user_memory}
@@ -14,16 +15,18 @@ use Rattle.protocol.specs.Rf.{rf_off, rf_on}
 use Rattle.protocol.specs.Setup.{is_the_part}
 use Rattle.protocol.specs.Write.{past, chunks, read_user, write_user}
 use Rattle.protocol.specs.Scrub.{scrub}
+use Rattle.protocol.specs.Answer.{Progress}
 use Rattle.protocol.specs.Call.{Call}
 use Rattle.protocol.specs.Call as call
 use Rattle.protocol.specs.Calls.{read_whole, begin, go_live, first_of, closing, finish, plainly, call_of}
 use Rattle.protocol.specs.Trace.{Report, noted, talk, asks}
+use Rattle.protocol.specs.declared.answer.TagError.{TagError}
 use Rattle.protocol.specs.declared.answer.Answer.{Answer}
-use Rattle.protocol.specs.declared.answer.Answer.TheVariants.{Done, Not}
+use Rattle.protocol.specs.declared.answer.Answer.TheVariants.{Done}
 use Rattle.protocol.specs.declared.answer.TagError.TheVariants.{NoAnswer, NotThePart, NotTaken}
 use Rattle.machine.specs.Ask.{meant, first}
 use Rattle.machine.specs.Wait.{wait_step, after_wait}
-use Rattle.machine.specs.Switch.{switch_new, switch_step, after_switch}
+use Rattle.machine.specs.Switch.{Switched, switch_new, switch_step, after_switch}
 use Rattle.machine.proofs.Waits.{wait_bridge}
 use Rattle.machine.proofs.Switches.{switch_bridge}
 use Rattle.setup.specs.Setup.{identified, setup_step, after_setup}
@@ -32,16 +35,10 @@ use Rattle.wipe.specs.Scrub.{scrub_new, scrub_step, after_scrub}
 use Rattle.wipe.proofs.Scrubs.{scrub_bridge, chunks_on}
 use Rattle.writing.specs.Write.{write_new, write_step, after_write}
 use Rattle.writing.proofs.Writes.{write_bridge, write_starts}
-use Rattle.machine.specs.declared.wait.Waited.{Waited}
-use Rattle.machine.specs.declared.wait.Waited.TheVariants as W
-use Rattle.machine.specs.declared.switch.Switched.{Switched}
-use Rattle.machine.specs.declared.switch.Switched.TheVariants as S
-use Rattle.setup.specs.declared.setup.SetupStep.{SetupStep}
-use Rattle.setup.specs.declared.setup.SetupStep.TheVariants as U
-use Rattle.wipe.specs.declared.scrub.Scrubbed.{Scrubbed}
-use Rattle.wipe.specs.declared.scrub.Scrubbed.TheVariants as C
-use Rattle.writing.specs.declared.write.Written.{Written}
-use Rattle.writing.specs.declared.write.Written.TheVariants as R
+use Rattle.machine.specs.declared.wait.Wait.{Wait}
+use Rattle.setup.specs.declared.setup.Setup.{Setup}
+use Rattle.wipe.specs.declared.scrub.Scrub.{Scrub}
+use Rattle.writing.specs.declared.write.Write.{Write}
 use Rattle.stages.specs.Turns.{stage_ask, wrote, identify_turn, prepare_turn, wait_turn, write_turn, switch_turn, whole_turn, wipe_turn, wipe_start, begin_turn, begin_off_turn, finish_off_turn, finish_turn, finish_start, stage_step, start_of, lent_to}
 use Rattle.runs.specs.Resume.{wiping, whole_rest, begin_rest, stuck_as, finish_rest, resume_stage, after_turn}
 use Rattle.stages.specs.declared.stage.Stage.{Stage}
@@ -51,68 +48,68 @@ use Rattle.stages.specs.declared.stage.Turn.TheVariants.{Open, Over}
 
 module _ (lent : List ℕ) (m : Mark) (q : Report) where
   -- what the step of each machine means for the call that it serves
-  prepare_case : (x : SetupStep) → talk m q (plainly (after_setup x)) ≡ after_turn lent q (prepare_turn m x)
-  prepare_case (U.More s) = refl
-  prepare_case U.Done = refl
-  prepare_case (U.Not e) = refl
+  prepare_case : (x : Progress Setup) → talk m q (plainly (after_setup x)) ≡ after_turn lent q (prepare_turn m x)
+  prepare_case (Ok (Some s)) = refl
+  prepare_case (Ok None) = refl
+  prepare_case (Err e) = refl
 
-  wait_case : (x : Waited) → talk m q (plainly (after_wait x)) ≡ after_turn lent q (wait_turn m x)
-  wait_case (W.More w) = refl
-  wait_case W.Ready = refl
-  wait_case W.Busy = refl
+  wait_case : (x : Progress Wait) → talk m q (plainly (after_wait x)) ≡ after_turn lent q (wait_turn m x)
+  wait_case (Ok (Some w)) = refl
+  wait_case (Ok None) = refl
+  wait_case (Err e) = refl
 
-  write_case : (x : Written) → talk m q (plainly (after_write lent x)) ≡ after_turn lent q (write_turn m x)
-  write_case (R.More w) = refl
-  write_case R.Done = refl
-  write_case (R.Not e) = refl
+  write_case : (x : Progress Write) → talk m q (plainly (after_write lent x)) ≡ after_turn lent q (write_turn m x)
+  write_case (Ok (Some w)) = refl
+  write_case (Ok None) = refl
+  write_case (Err e) = refl
 
   switch_case : (x : Switched) → talk m q (plainly (after_switch x)) ≡ after_turn lent q (switch_turn m x)
-  switch_case (S.More s) = refl
-  switch_case S.Done = refl
-  switch_case S.Stuck = refl
+  switch_case (Ok (Some s)) = refl
+  switch_case (Ok None) = refl
+  switch_case (Err e) = refl
 
   whole_case : (x : Switched) → talk m q (plainly (try (after_switch x) (λ _. whole_rest))) ≡ after_turn lent q (whole_turn m x)
-  whole_case (S.More s) = refl
-  whole_case S.Done = refl
-  whole_case S.Stuck = refl
+  whole_case (Ok (Some s)) = refl
+  whole_case (Ok None) = refl
+  whole_case (Err e) = refl
 
-  wipe_case : (x : Scrubbed) → talk m q (plainly (wiping (after_scrub x))) ≡ after_turn lent q (wipe_turn m x)
-  wipe_case (C.More s) = refl
-  wipe_case C.Done = refl
-  wipe_case (C.Not e) = refl
+  wipe_case : (x : Progress Scrub) → talk m q (plainly (wiping (after_scrub x))) ≡ after_turn lent q (wipe_turn m x)
+  wipe_case (Ok (Some s)) = refl
+  wipe_case (Ok None) = refl
+  wipe_case (Err e) = refl
 
   -- the wipe from its start
   wipe_start_lem : talk m q (plainly (scrub m)) ≡ after_turn lent q (wipe_start m)
   unfolding scrub
   wipe_start_lem = ap (λ (p : Proc (Res Unit)). talk m q (plainly (wiping p))) (chunks_on (chunks (wipe_end m)) 0 (wipe_end m)) ∙ wipe_case (scrub_new (wipe_end m))
 
-  begin_case : (x : SetupStep) → talk m q (plainly (try (after_setup x) (λ _. try rf_off (λ _. begin_rest m)))) ≡ after_turn lent q (begin_turn m x)
+  begin_case : (x : Progress Setup) → talk m q (plainly (try (after_setup x) (λ _. try rf_off (λ _. begin_rest m)))) ≡ after_turn lent q (begin_turn m x)
   unfolding rf_off
-  begin_case (U.More s) = refl
-  begin_case U.Done = refl
-  begin_case (U.Not e) = refl
+  begin_case (Ok (Some s)) = refl
+  begin_case (Ok None) = refl
+  begin_case (Err e) = refl
 
-  begin-rest : (b : Bool) → talk m q (plainly (pick b fine (scrub m))) ≡ after_turn lent q (pick b (Over m Done) (wipe_start m))
+  begin-rest : (b : Bool) → talk m q (plainly (pick b fine (scrub m))) ≡ after_turn lent q (pick b (Over m (Ok Done)) (wipe_start m))
   begin-rest true = refl
   begin-rest false = wipe_start_lem
 
   begin_off_case : (x : Switched) → talk m q (plainly (try (after_switch x) (λ _. begin_rest m))) ≡ after_turn lent q (begin_off_turn m x)
-  begin_off_case (S.More s) = refl
-  begin_off_case S.Done = begin-rest (is_none m)
-  begin_off_case S.Stuck = refl
+  begin_off_case (Ok (Some s)) = refl
+  begin_off_case (Ok None) = begin-rest (is_none m)
+  begin_off_case (Err e) = refl
 
   finish_off_case : (x : Switched) → talk m q (plainly (after_switch x >>= finish_rest m)) ≡ after_turn lent q (finish_off_turn m x)
-  finish_off_case (S.More s) = refl
-  finish_off_case S.Done = refl
-  finish_off_case S.Stuck = refl
+  finish_off_case (Ok (Some s)) = refl
+  finish_off_case (Ok None) = refl
+  finish_off_case (Err e) = refl
 
-  finish_case : (stuck : Bool) (x : Scrubbed)
+  finish_case : (stuck : Bool) (x : Progress Scrub)
       → talk m q (plainly (wiping (after_scrub x) >>= λ wiped. done (first_of (stuck_as stuck) wiped))) ≡ after_turn lent q (finish_turn m stuck x)
-  finish_case stuck (C.More s) = refl
-  finish_case true C.Done = refl
-  finish_case false C.Done = refl
-  finish_case true (C.Not e) = refl
-  finish_case false (C.Not e) = refl
+  finish_case stuck (Ok (Some s)) = refl
+  finish_case true (Ok None) = refl
+  finish_case false (Ok None) = refl
+  finish_case true (Err e) = refl
+  finish_case false (Err e) = refl
 
   -- the wipe of `finish` from its start
   finish_start_lem : (stuck : Bool) → talk m q (plainly (closing m (stuck_as stuck))) ≡ after_turn lent q (finish_start m stuck)
@@ -129,12 +126,12 @@ module _ (lent : List ℕ) (m : Mark) (q : Report) where
   identify_case g false t e = refl
 
   read_case : (g : List ℕ) (b : Bool) → talk m q (plainly (try (pick b (done (ok g)) (refuse NoAnswer)) (λ _. fine)))
-      ≡ after_turn lent q (pick b (Over m Done) (Over m (Not NoAnswer)))
+      ≡ after_turn lent q (pick b (Over m (Ok Done)) (Over m (Err NoAnswer)))
   read_case g true = refl
   read_case g false = refl
 
   whole-read_case : (g : List ℕ) (b : Bool) → talk m q (plainly (try (pick b (done (ok g)) (refuse NoAnswer)) (λ out. mark (found out) fine)))
-      ≡ after_turn lent q (pick b (Over (found g) Done) (Over m (Not NoAnswer)))
+      ≡ after_turn lent q (pick b (Over (found g) (Ok Done)) (Over m (Err NoAnswer)))
   whole-read_case g true = refl
   whole-read_case g false = refl
 
@@ -145,7 +142,7 @@ finish_status_case lent m q stuck false = finish_start_lem lent m q stuck
 
 -- a stage, as its host sees it
 module _ (lent : List ℕ) (m : Mark) (r : Report) where
-  turns : (st : Stage) (t : Transfer) (k : Reply → Proc Answer) → resume_stage lent m st ≡ ask t k
+  turns : (st : Stage) (t : Transfer) (k : Reply → Proc (Result Answer TagError)) → resume_stage lent m st ≡ ask t k
       → ((x : Reply) (q : Report) → talk m q (k x) ≡ after_turn lent q (stage_step lent m st x.ack x.got))
       → talk m r (resume_stage lent m st) ≡ asks m t (λ x. after_turn lent (noted r (record { transfer = t; reply = x })) (stage_step lent m st x.ack x.got))
   turns st t k e h = ap (talk m r) e ∙ ap (asks m t) (fun_ext (λ x. h x (noted r (record { transfer = t; reply = x }))))
@@ -194,7 +191,7 @@ session_bridge lent m r (G.FinishWipe stuck s) =
     (λ x q. finish_case lent m q stuck (scrub_step s x.ack x.got))
 
 past_case : (m : Mark) (q : Report) (lent : List ℕ) (b : Bool) (p : Proc (Res Unit)) (t : Turn) → talk m q (plainly p) ≡ after_turn lent q t
-    → talk m q (plainly (pick b (refuse NotTaken) p)) ≡ after_turn lent q (pick b (Over m (Not NotTaken)) t)
+    → talk m q (plainly (pick b (refuse NotTaken) p)) ≡ after_turn lent q (pick b (Over m (Err NotTaken)) t)
 past_case m q lent true p t e = refl
 past_case m q lent false p t e = e
 
@@ -214,7 +211,7 @@ session_starts call.rf_on m r = refl
 session_starts call.rf_wrote m r = refl
 session_starts (call.read_whole n) m r = whole_start (eqb n user_memory)
   where
-    whole_start : (b : Bool) → talk m r (plainly (pick b (try rf_off (λ _. whole_rest)) (refuse NotTaken))) ≡ after_turn (lent_to (call.read_whole n)) r (pick b (Open m (G.WholeOff (switch_new false))) (Over m (Not NotTaken)))
+    whole_start : (b : Bool) → talk m r (plainly (pick b (try rf_off (λ _. whole_rest)) (refuse NotTaken))) ≡ after_turn (lent_to (call.read_whole n)) r (pick b (Open m (G.WholeOff (switch_new false))) (Over m (Err NotTaken)))
     whole_start true = refl
     whole_start false = refl
 session_starts call.scrub m r = wipe_start_lem _ m r

@@ -4,10 +4,12 @@ use mathlib.Core.List.{List, [], ◌∷◌}
 use Prim.Native.Nat.{ℕ}
 use native.Mathlib.Omega.{arith}
 use lib.ListN.{length}
+use Rattle.std.specs.Prelude.{Result}
 use Rattle.protocol.specs.Transfer.{Transfer, Reply}
 use Rattle.protocol.specs.Mark.{Mark}
 use Rattle.protocol.specs.Proc.{Proc, done, ask, mark}
 use Rattle.protocol.specs.Trace.{Replies, later, Exchange, trace, Report, noted, Talk, talk, asks, over, End, end_of}
+use Rattle.protocol.specs.declared.answer.TagError.{TagError}
 use Rattle.protocol.specs.declared.answer.Answer.{Answer}
 use Rattle.machine.specs.Ask.{meant}
 use Rattle.stages.specs.Turns.{stage_ask, stage_step}
@@ -24,12 +26,12 @@ module _ (lent : List ℕ) where
   on r m st x = after_turn lent (noted r (record { transfer = meant lent (stage_ask (length lent) st); reply = x })) (stage_step lent m st x.ack x.got)
 
   -- the definition has answered: so has the session
-  answered : (a : Answer) (m : Mark) (r : Report) (t : Turn) (ρ : Replies) → over a m r ≡ after_turn lent r t
+  answered : (a : Result Answer TagError) (m : Mark) (r : Report) (t : Turn) (ρ : Replies) → over a m r ≡ after_turn lent r t
       → Runs lent r t ρ [] (record { answer = a; mark = m; report = r })
   answered a m r (Over n b) ρ e =
       let ea : b ≡ a = cc in
       let em : n ≡ m = cc in
-      subst (λ (z : Answer). Runs lent r (Over n b) ρ [] (record { answer = z; mark = m; report = r })) ea
+      subst (λ (z : Result Answer TagError). Runs lent r (Over n b) ρ [] (record { answer = z; mark = m; report = r })) ea
       (subst (λ (z : Mark). Runs lent r (Over n b) ρ [] (record { answer = b; mark = z; report = r })) em ends)
   answered a m r (Open n st) ρ e =
       let q : over a m r ≡ asks n (meant lent (stage_ask (length lent) st)) (on r n st) = e ∙ session_bridge lent n r st in
@@ -48,7 +50,7 @@ module _ (lent : List ℕ) where
       let v = stage_step lent n st (ρ 0).ack (ρ 0).got in
       goes et (h v (ap (λ (g : Reply → Talk). g (ρ 0)) ek ∙ ap (λ (z : Transfer). after_turn lent (noted r (record { transfer = z; reply = ρ 0 })) v) (sym et)))
 
-  pub runs_along : (p : Proc Answer) (m : Mark) (r : Report) (t : Turn) (ρ : Replies) → talk m r p ≡ after_turn lent r t
+  pub runs_along : (p : Proc (Result Answer TagError)) (m : Mark) (r : Report) (t : Turn) (ρ : Replies) → talk m r p ≡ after_turn lent r t
       → Runs lent r t ρ (trace p ρ) (end_of (talk m r p) ρ)
   runs_along (done a) m r t ρ e = answered a m r t ρ e
   runs_along (ask x k) m r t ρ e =

@@ -9,7 +9,7 @@
 --   begin_rest m              == the rest of `begin` after RF is off: the wipe, if the mark m is not none
 --   finish_rest m off         == the rest of `finish` from the status on, after RF said `off`
 --   stuck_as stuck            == what RF said: Ok, or RfStuck
-use Rattle.std.specs.Prelude.{List, Bool, true, false, ℕ}
+use Rattle.std.specs.Prelude.{List, Bool, true, false, ℕ, Result, Ok}
 use Rattle.slices.specs.Pick.{pick}
 use Rattle.protocol.specs.Tag.{user, user_memory}
 use Rattle.protocol.specs.Mark.{Mark, none, whole, found, is_none}
@@ -20,6 +20,7 @@ use Rattle.protocol.specs.Setup.{identify}
 use Rattle.protocol.specs.Scrub.{scrub}
 use Rattle.protocol.specs.Calls.{go_live, first_of, closing, plainly}
 use Rattle.protocol.specs.Trace.{Report, Talk, talk, over}
+use Rattle.protocol.specs.declared.answer.TagError.{TagError}
 use Rattle.protocol.specs.declared.answer.Answer.{Answer}
 use Rattle.protocol.specs.declared.answer.Answer.TheVariants.{Wrote}
 use Rattle.protocol.specs.declared.answer.TagError.TheVariants.{RfStuck}
@@ -52,14 +53,14 @@ stuck_as false = ok tt
 abbrev pub finish_rest : Mark → Res Unit → Proc (Res Unit)
 finish_rest m off = rf_wrote >>= λ wrote. pick wrote (mark whole (closing whole off)) (closing m off)
 
-abbrev pub resume_stage : List ℕ → Mark → Stage → Proc Answer
+abbrev pub resume_stage : List ℕ → Mark → Stage → Proc (Result Answer TagError)
 resume_stage lent m G.Identify = plainly identify
 resume_stage lent m (G.Prepare s) = plainly (resume_setup s)
 resume_stage lent m (G.WaitReady w) = plainly (resume_wait w)
 resume_stage lent m (G.ReadUser at k) = plainly (try (read user at k) (λ _. fine))
 resume_stage lent m (G.Write w) = plainly (resume_write lent w)
 resume_stage lent m (G.Switching s) = plainly (resume_switch s)
-resume_stage lent m G.RfWrote = rf_wrote >>= λ wrote. done (Wrote wrote)
+resume_stage lent m G.RfWrote = rf_wrote >>= λ wrote. done (Ok (Wrote wrote))
 resume_stage lent m (G.WholeOff s) = plainly (try (resume_switch s) (λ _. whole_rest))
 resume_stage lent m G.WholeStatus = plainly whole_rest
 resume_stage lent m G.WholeRead = plainly whole_read

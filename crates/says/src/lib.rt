@@ -1,18 +1,18 @@
 // What a record says: a text, a URI, and a URI's prefix.
 #![tactic(auto)]
 
-ghost use Rattle.std.specs.Prelude.{◌≡◌};
+ghost use Rattle.std.specs.Prelude.{◌≡◌, is_some, option_map};
 ghost use Rattle.uri.specs.Prefixes.{prefix_answer};
 ghost use Rattle.contents.specs.Contents.{text_of};
-ghost use Rattle.links.specs.Links.{uri_of};
+ghost use Rattle.links.specs.Links.{says, uri_of};
 ghost use Rattle.plain.specs.Reading.{record_of, yes};
 ghost use Rattle.places.specs.Places.{part_number, part_numbers};
-ghost use Rattle.says.specs.Says.{link_number, link_numbers};
+ghost use Rattle.says.specs.Says.{link_number, link_numbers, in_row, row_len};
 
-use contents::Part;
 use links::Link;
 use places::told;
 use plain::record_of;
+use slices::copy_to;
 
 // The text of a text record.
 pub fn text(image: &[u8], places: &[usize; 6], part: &mut [usize; 2]) -> u32
@@ -23,17 +23,16 @@ pub fn text(image: &[u8], places: &[usize; 6], part: &mut [usize; 2]) -> u32
 }
 
 // 1 and the place and length of a URI's rest with its prefix's code, or 0 and zeros.
-fn link(l: Link, values: &mut [usize; 3]) -> u32
-    ensures { (result ≡ link_number l) × (values.new ≡ link_numbers l) }
+fn link(l: Option<Link>, values: &mut [usize; 3]) -> u32
+    ensures { (result ≡ link_number (option_map says l)) × (values.new ≡ link_numbers (option_map says l)) }
 {
-    let rest = l.rest;
-    match rest {
-        Part::At(place, len) => {
-            *values = [place, len, l.code as usize];
+    match l {
+        Some(Link { rest, code, .. }) => {
+            *values = [rest.at, rest.len, usize::from(code)];
             1
         }
-        Part::Nothing => {
-            *values = [0usize; 3];
+        None => {
+            *values = [0; 3];
             0
         }
     }
@@ -49,14 +48,16 @@ pub fn uri(image: &[u8], places: &[usize; 6], values: &mut [usize; 3]) -> u32
 
 // The prefix of a code, with zeros after it, and its length: 1 for the 36 of the table, else 0, zeros and 0.
 pub fn uri_prefix(code: u8, prefix: &mut [u8; 26], len: &mut usize) -> u32
-    ensures value { result ≡ yes (prefix_answer code).known }
-    ensures prefix_after { prefix.new ≡ (prefix_answer code).prefix.bytes }
-    ensures len_after { len.new ≡ (prefix_answer code).prefix.len }
+    ensures value { result ≡ yes (is_some (prefix_answer code)) }
+    ensures prefix_after { prefix.new ≡ in_row (prefix_answer code) }
+    ensures len_after { len.new ≡ row_len (prefix_answer code) }
 {
-    let found = uri::uri_prefix(code);
-    let p = found.prefix;
-    let bytes = p.bytes;
-    *prefix = bytes;
-    *len = p.len;
-    found.known as u32
+    *prefix = [0; 26];
+    let Some(text) = uri::uri_prefix(code) else {
+        *len = 0;
+        return 0;
+    };
+    copy_to(prefix, 0, text);
+    *len = text.len();
+    1
 }

@@ -6,7 +6,7 @@ use Prim.Native.Nat.{ℕ, zero, suc, ◌+◌, ◌-◌, ◌≤◌, ◌<◌}
 use native.Mathlib.Omega.{arith}
 use native.Mathlib.Numerals.{add-one}
 use lib.ListN.{length, get_or, take, drop, length-drop, drop_of_length-le}
-use lib.Seq.{take-suc, get_or-drop, take_all}
+use lib.Seq.{take-suc, take_all}
 use lib.Dec.{eqb}
 use borrow.Author.Tests.{eq-eqb, eqb-true}
 use Rattle.slices.proofs.Truths.{and_left, and_right}
@@ -35,12 +35,9 @@ blank-last : (s : List ℕ) (b : ℕ) → blank (s ++ b ∷ []) ≡ blank s && e
 blank-last [] b = and-true (eqb b 0)
 blank-last (x ∷ xs) b = ap (λ (t : Bool). eqb x 0 && t) (blank-last xs b) ∙ sym (and_assoc (eqb x 0) (blank xs) (eqb b 0))
 
--- the block from i with one byte more
-pub blank-more : (s : List ℕ) (i k : ℕ) → i + k < length s → blank (take k (drop i s)) && eqb (get_or s (i + k) 0) 0 ≡ blank (take (k + 1) (drop i s))
-blank-more s i k h =
-    ap (λ (b : ℕ). blank (take k (drop i s)) && eqb b 0) (sym (get_or-drop i s k 0))
-    ∙ sym (blank-last (take k (drop i s)) (get_or (drop i s) k 0))
-    ∙ ap blank (sym (take-suc (drop i s) k 0 (omega (arith, length-drop i s))) ∙ ap (λ (n : ℕ). take n (drop i s)) (sym (add-one k)))
+-- one byte more
+pub blank-more : (s : List ℕ) (k : ℕ) → k < length s → blank (take k s) && eqb (get_or s k 0) 0 ≡ blank (take (k + 1) s)
+blank-more s k h = sym (blank-last (take k s) (get_or s k 0)) ∙ ap blank (sym (take-suc s k 0 h) ∙ ap (λ (n : ℕ). take n s) (sym (add-one k)))
 
 -- a row that the bytes end in
 pub blank-short : (s : List ℕ) (i : ℕ) → length s - i < 16 → blank (take (length s - i) (drop i s)) ≡ blank (take 16 (drop i s))

@@ -1,19 +1,16 @@
 // Bytes that are all zero. A block is tested without leaving it early, so that it is tested at once.
 #![tactic(auto)]
 
-ghost use Rattle.std.specs.Prelude.{◌≡◌, ◌+◌, ◌≤◌, length, take, drop};
+ghost use Rattle.std.specs.Prelude.{◌≡◌, take, drop};
 ghost use Rattle.scan.specs.Zeros.{blank};
 
-// Whether the `n` bytes from `i` are all zero.
-pub fn all_zero(s: &[u8], i: usize, n: usize) -> bool
-    requires { i + n ≤ length s.now }
-    ensures { result ≡ blank (take n (drop i s.now)) }
+// Whether bytes are all zero.
+pub fn all_zero(s: &[u8]) -> bool
+    ensures { result ≡ blank s.now }
 {
     let mut ok = true;
-    let mut k = 0;
-    while k < n {
-        ok = ok & (s[i + k] == 0);
-        k += 1;
+    for b in s {
+        ok = ok & (*b == 0);
     }
     ok
 }
@@ -26,8 +23,8 @@ pub fn blank_row(s: &[u8], from: usize) -> bool
         return true;
     }
     if s.len() - from < 16 {
-        all_zero(s, from, s.len() - from)
+        all_zero(&s[from..])
     } else {
-        all_zero(s, from, 16)
+        all_zero(&s[from..from + 16])
     }
 }

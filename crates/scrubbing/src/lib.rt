@@ -6,29 +6,26 @@ ghost use Rattle.wipe.specs.Scrub.{row_step, waited_step, scrub_ask, scrub_step,
 
 use chunks::{reread_step, size};
 use found::{next_row, read_step};
+use machine::ack::acked;
 use machine::ask::Ask;
-use machine::wait::{Wait, Waited};
-use protocol::answer::TagError;
-use wipe::scrub::{Chunk, Rows, Scrub, Scrubbed};
+use machine::wait::Wait;
+use protocol::answer::Progress;
+use wipe::scrub::{Chunk, Rows, Scrub};
 
-fn row_step(p: Chunk, r: Rows, ack: bool) -> Scrubbed
+fn row_step(p: Chunk, r: Rows, ack: bool) -> Progress<Scrub>
     ensures { result ≡ row_step p r ack }
 {
-    if ack {
-        Scrubbed::More(Scrub::Wait(p, r, Wait::new()))
-    } else {
-        Scrubbed::Not(TagError::NoAnswer)
-    }
+    acked(ack)?;
+    Ok(Some(Scrub::Wait(p, r, Wait::new())))
 }
 
-fn waited_step(p: Chunk, r: Rows, w: Waited) -> Scrubbed
+fn waited_step(p: Chunk, r: Rows, w: Progress<Wait>) -> Progress<Scrub>
     requires { r.row < 69000 }
     ensures { result ≡ waited_step p r w }
 {
-    match w {
-        Waited::More(n) => Scrubbed::More(Scrub::Wait(p, r, n)),
-        Waited::Ready => Scrubbed::More(next_row(p, r.row + 16, r.x, r.y, r.z)),
-        Waited::Busy => Scrubbed::Not(TagError::Busy),
+    match w? {
+        Some(n) => Ok(Some(Scrub::Wait(p, r, n))),
+        None => Ok(Some(next_row(p, r.row + 16, r.x, r.y, r.z))),
     }
 }
 
@@ -43,7 +40,7 @@ pub fn ask(s: Scrub) -> Ask
     }
 }
 
-pub fn step(s: Scrub, ack: bool, reply: &[u8]) -> Scrubbed
+pub fn step(s: Scrub, ack: bool, reply: &[u8]) -> Progress<Scrub>
     requires { Near s × (64 ≤ length reply.now) }
     ensures { result ≡ scrub_step s ack reply.now }
 {

@@ -13,13 +13,8 @@ pub fn answers(l: Look) -> bool
     ensures { result ≡ known l }
 {
     match l {
-        Look::Memory(_) => true,
-        Look::Dynamic => true,
-        Look::Session => true,
-        Look::Status => true,
-        Look::Byte(_) => true,
-        Look::Identity => true,
         Look::Unknown => false,
+        _ => true,
     }
 }
 
@@ -28,12 +23,7 @@ pub fn seen(l: Look, r: Registers) -> Registers
     ensures { result ≡ looked l r }
 {
     match l {
-        Look::Memory(_) => r,
-        Look::Dynamic => r,
-        Look::Session => r,
         Look::Status => noted(r, false),
-        Look::Byte(_) => r,
-        Look::Identity => r,
-        Look::Unknown => r,
+        _ => r,
     }
 }

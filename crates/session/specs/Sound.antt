@@ -16,7 +16,7 @@
 --   piece_rows m len p          == the rows of a write of `len` bytes up to its row p, that one too; 0 where p is none of them
 --   check_rows m len c          == the rows of a write, all of them; 0 where c is not one of the chunks that are read back
 --   write_sound m len rows w    == the rows programmed are those up to the place that the write is at
-use Rattle.std.specs.Prelude.{ℕ, ◌+◌, ◌-◌, ◌*◌, ◌/◌, ◌%◌, min, Bool, true, false, not, ◌&&◌, ◌||◌, eqb, ltb, leb}
+use Rattle.std.specs.Prelude.{ℕ, ◌+◌, ◌-◌, ◌*◌, ◌/◌, ◌%◌, min, Bool, true, false, not, ◌&&◌, ◌||◌, eqb, ltb, leb, Option, Some, None}
 use Rattle.slices.specs.Pick.{pick}
 use Rattle.scan.specs.Rows.{row, row_count}
 use Rattle.protocol.specs.Tag.{user_memory, ready_polls, rf_tries, chunk}
@@ -42,8 +42,6 @@ use Rattle.writing.specs.declared.write.Write.{Write}
 use Rattle.writing.specs.declared.write.Write.TheVariants as K
 use Rattle.stages.specs.declared.stage.Stage.{Stage}
 use Rattle.stages.specs.declared.stage.Stage.TheVariants as G
-use Rattle.session.specs.declared.session.Now.{Now}
-use Rattle.session.specs.declared.session.Now.TheVariants as N
 use Rattle.session.specs.declared.session.Session.{Session}
 
 abbrev pub wait_sound : Wait → Bool
@@ -149,9 +147,9 @@ stage_sound m rows lent (G.FinishOff s) = plain rows lent && off_sound s
 stage_sound m rows lent (G.FinishStatus stuck) = plain rows lent
 stage_sound m rows lent (G.FinishWipe stuck s) = eqb lent 0 && scrub_sound m rows s
 
-abbrev pub now_sound : Mark → ℕ → ℕ → Now → Bool
-now_sound m rows lent N.Idle = plain rows lent
-now_sound m rows lent (N.Open st) = stage_sound m rows lent st
+abbrev pub now_sound : Mark → ℕ → ℕ → Option Stage → Bool
+now_sound m rows lent None = plain rows lent
+now_sound m rows lent (Some st) = stage_sound m rows lent st
 
 abbrev pub sound : Session → Bool
 sound s = leb s.mark user_memory && now_sound s.mark s.rows s.lent s.now

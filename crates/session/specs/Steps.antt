@@ -6,7 +6,7 @@
 --   entered rows lent t    == the session after the turn t of a call with `rows` rows programmed and `lent` bytes of data
 --   counted a ack          == 1 for a row write that was acknowledged, else 0
 --   out_of st               == how many bytes `out` has in the call that st belongs to: 0 for a call that takes none
-use Rattle.std.specs.Prelude.{ℕ, Bool}
+use Rattle.std.specs.Prelude.{ℕ, Bool, Some, None}
 use Rattle.slices.specs.Pick.{pick}
 use Rattle.protocol.specs.Tag.{user_memory}
 use Rattle.protocol.specs.Mark.{Mark}
@@ -16,14 +16,13 @@ use Rattle.stages.specs.declared.stage.Stage.{Stage}
 use Rattle.stages.specs.declared.stage.Stage.TheVariants as G
 use Rattle.stages.specs.declared.stage.Turn.{Turn}
 use Rattle.stages.specs.declared.stage.Turn.TheVariants.{Open, Over}
-use Rattle.session.specs.declared.session.Now.TheVariants as N
 use Rattle.session.specs.declared.session.Session.{Session}
 
 abbrev pub idle : Mark → Session
-idle m = record { mark = m; rows = 0; lent = 0; now = N.Idle }
+idle m = record { mark = m; rows = 0; lent = 0; now = None }
 
 abbrev pub entered : ℕ → ℕ → Turn → Session
-entered rows lent (Open m st) = record { mark = m; rows = rows; lent = lent; now = N.Open st }
+entered rows lent (Open m st) = record { mark = m; rows = rows; lent = lent; now = Some st }
 entered rows lent (Over m a) = idle m
 
 abbrev pub counted : Ask → Bool → ℕ

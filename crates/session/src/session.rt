@@ -5,13 +5,6 @@ ghost use Rattle.session.specs.Steps.{idle};
 
 use stages::stage::Stage;
 
-// Whether a call is open, and what it waits on.
-#[derive(Clone, Copy)]
-pub enum Now {
-    Idle,
-    Open(Stage),
-}
-
 #[derive(Clone, Copy)]
 pub struct Session {
     pub mark: usize,
@@ -19,7 +12,8 @@ pub struct Session {
     pub rows: usize,
     // Bytes of data that were lent to it.
     pub lent: usize,
-    pub now: Now,
+    // What the open call waits on; none between two calls.
+    pub now: Option<Stage>,
 }
 
 impl Session {
@@ -33,19 +27,15 @@ impl Session {
     pub const RF_TRIES: u8 = 10;
 
     // A session whose mark was carried from the last one: the smaller of `dirty` and the whole part.
+    #[tactic(auto, unfolding(protocol::specs::Mark::given))]
     pub fn new(dirty: usize) -> Session
         ensures { result ≡ idle (given dirty) }
     {
-        let mark = if dirty < Session::USER_MEMORY {
-            dirty
-        } else {
-            Session::USER_MEMORY
-        };
         Session {
-            mark,
+            mark: dirty.min(Session::USER_MEMORY),
             rows: 0,
             lent: 0,
-            now: Now::Idle,
+            now: None,
         }
     }
 

@@ -7,8 +7,7 @@ use Rattle.session.specs.Steps.{entered}
 use Rattle.session.specs.declared.session.Session.{Session}
 use Rattle.state.specs.Bytes.{encode}
 use Rattle.stages.specs.declared.stage.Turn.{Turn}
-use Rattle.telling.specs.declared.opening.Opened.{Opened}
-use Rattle.telling.specs.Left.{Leaves, settled, started_left}
+use Rattle.telling.specs.Left.{Leaves, settled}
 
 module _ (lent : List ℕ) (rows : ℕ) (t u : Turn) (et : t ≡ u) (tr r : List ℕ) where
   -- each part, for the turn that it was found to be
@@ -19,9 +18,3 @@ module _ (lent : List ℕ) (rows : ℕ) (t u : Turn) (et : t ≡ u) (tr r : List
 
   pub stored : (state : List ℕ) (s : Session) → state ≡ encode s → s ≡ entered rows (length lent) t → state ≡ encode (entered rows (length lent) u)
   stored state s a b = a ∙ ap encode (b ∙ ap (entered rows (length lent)) et)
-
--- the same for what may be started
-pub starts : (o p : Opened) → o ≡ p → (lent : List ℕ) (turn : Turn) (s t r : List ℕ) (step : ℕ) (state transfer reply : List ℕ)
-    → Leaves (started_left p lent turn s t r) step state transfer reply → Leaves (started_left o lent turn s t r) step state transfer reply
-starts o p e lent turn s t r step state transfer reply =
-    subst (λ (x : Opened). Leaves (started_left x lent turn s t r) step state transfer reply) (sym e)

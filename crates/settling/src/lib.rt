@@ -3,21 +3,20 @@
 
 ghost use Rattle.std.specs.Prelude.{◌≡◌, ◌++◌, ◌<◌, ◌≤◌, length, drop, replicate};
 ghost use Rattle.state.specs.Bytes.{encode};
-ghost use Rattle.telling.specs.Left.{Leaves, into_out, framed, waits_on, settled, started_left};
+ghost use Rattle.telling.specs.Left.{Leaves, into_out, framed, waits_on, settled};
 ghost use Rattle.protocol.specs.Answer.{answer_number, answer_value};
 ghost use Rattle.telling.specs.Step.{answer_step, transfer_step};
-ghost use Rattle.telling.specs.Fit.{StageFits, TurnFits, StartFits};
+ghost use Rattle.telling.specs.Fit.{StageFits, TurnFits};
 
 use decoding::encode;
 use framing::{frame, write_frame};
 use outcomes::{number, value};
-use protocol::answer::Answer;
+use protocol::answer::{Answer, TagError};
 use results::entered;
 use session::session::Session;
-use slices::{copy_to, wide};
+use slices::copy_to;
 use stages::stage::{Stage, Turn};
 use steps::stage_ask;
-use telling::opening::Opened;
 use telling::step::{ask_step, step};
 
 // Whether the bytes that a stage reads go into the caller's own buffer.
@@ -60,11 +59,11 @@ fn clear(transfer: &mut [u8], reply: &mut [u8])
     copy_to(reply, 0, &[0u8; 64]);
 }
 
-fn answer(rows: usize, a: Answer) -> u64
+fn answer(rows: usize, a: Result<Answer, TagError>) -> u64
     requires { rows < 65536 }
     ensures { result ≡ answer_step (answer_number a) rows (answer_value a) }
 {
-    step(0, number(a), rows, wide(value(a)))
+    step(0, number(a), rows, usize::from(value(a)))
 }
 
 pub fn settle(
@@ -85,23 +84,5 @@ pub fn settle(
             clear(transfer, reply);
             answer(rows, a)
         }
-    }
-}
-
-// A call that was started: what its first turn leaves, or the refusal, which touches nothing.
-pub fn started(
-    state: &mut [u8],
-    transfer: &mut [u8],
-    reply: &mut [u8],
-    lent: &[u8],
-    o: Opened,
-    t: Turn,
-) -> u64
-    requires { StartFits o (length state.old) (length transfer.old) (length reply.old) (length lent.now) t }
-    ensures { Leaves (started_left o lent.now t state.old transfer.old reply.old) result state.new transfer.new reply.new }
-{
-    match o {
-        Opened::At(_) => settle(state, transfer, reply, lent, 0, t),
-        Opened::Not(n) => step(0, n, 0, 0),
     }
 }

@@ -4,19 +4,19 @@ use mathlib.Core.Bool.{Bool, true, false}
 use mathlib.Core.List.{List}
 use Prim.Native.Nat.{ℕ}
 use lib.ListN.{take}
+use Rattle.std.specs.Prelude.{Ok, Err, Some, None}
 use Rattle.slices.specs.Pick.{pick}
 use Rattle.protocol.specs.Tag.{gpo1, rf_mngt, i2c_cfg, i2c_cfg_value, rf_mngt_value, gpo1_value}
+use Rattle.protocol.specs.Answer.{Progress}
 use Rattle.protocol.specs.Proc.{Proc, done, ask, Res, ok, try, fine, refuse, unless}
 use Rattle.protocol.specs.Setup.{is_the_part, open_session, write_system, is_set_up, reports, set_up, reporting}
 use Rattle.protocol.specs.declared.answer.TagError.TheVariants.{NoAnswer, NotThePart}
 use Rattle.machine.specs.Ask.{meant, first}
 use Rattle.password.specs.Open.{open_ask, open_step, after_open}
-use Rattle.password.specs.declared.Opened.{Opened}
-use Rattle.password.specs.declared.Opened.TheVariants as Od
+use Rattle.password.specs.declared.Open as password
 use Rattle.password.proofs.Opens.{open_bridge}
 use Rattle.storing.specs.Store.{store_ask, store_step, after_store}
-use Rattle.storing.specs.declared.Stored.{Stored}
-use Rattle.storing.specs.declared.Stored.TheVariants as Sd
+use Rattle.storing.specs.declared.Store as storing
 use Rattle.storing.proofs.Stores.{store_bridge}
 use Rattle.setup.specs.Setup.{setup_ask, identified, configured, judged, setup_opened, setup_stored, setup_step, resume_setup, after_setup}
 use Rattle.setup.specs.declared.setup.Job.TheVariants as J
@@ -44,33 +44,33 @@ events_case v true false e = rw e
 events_case v false t e = refl
 
 -- the session is opened, nested in what follows it
-opened-first : (x : Opened)
+opened-first : (x : Progress password.Open)
     → try (try (after_open x) (λ _. try (write_system i2c_cfg i2c_cfg_value) (λ _. write_system rf_mngt rf_mngt_value))) (λ _. reporting) ≡ after_setup (setup_opened true x)
-opened-first (Od.More o) = refl
-opened-first Od.Done = refl
-opened-first (Od.Not e) = refl
+opened-first (Ok (Some o)) = refl
+opened-first (Ok None) = refl
+opened-first (Err e) = refl
 
-opened-later : (x : Opened) → try (after_open x) (λ _. write_system gpo1 gpo1_value) ≡ after_setup (setup_opened false x)
-opened-later (Od.More o) = refl
-opened-later Od.Done = refl
-opened-later (Od.Not e) = refl
+opened-later : (x : Progress password.Open) → try (after_open x) (λ _. write_system gpo1 gpo1_value) ≡ after_setup (setup_opened false x)
+opened-later (Ok (Some o)) = refl
+opened-later (Ok None) = refl
+opened-later (Err e) = refl
 
 -- a byte is stored, nested in what follows it
-stored_config : (x : Stored)
+stored_config : (x : Progress storing.Store)
     → try (try (after_store i2c_cfg i2c_cfg_value x) (λ _. write_system rf_mngt rf_mngt_value)) (λ _. reporting) ≡ after_setup (setup_stored J.Config x)
-stored_config (Sd.More s) = refl
-stored_config Sd.Done = refl
-stored_config (Sd.Not e) = refl
+stored_config (Ok (Some s)) = refl
+stored_config (Ok None) = refl
+stored_config (Err e) = refl
 
-stored_sleep : (x : Stored) → try (after_store rf_mngt rf_mngt_value x) (λ _. reporting) ≡ after_setup (setup_stored J.Sleep x)
-stored_sleep (Sd.More s) = refl
-stored_sleep Sd.Done = refl
-stored_sleep (Sd.Not e) = refl
+stored_sleep : (x : Progress storing.Store) → try (after_store rf_mngt rf_mngt_value x) (λ _. reporting) ≡ after_setup (setup_stored J.Sleep x)
+stored_sleep (Ok (Some s)) = refl
+stored_sleep (Ok None) = refl
+stored_sleep (Err e) = refl
 
-stored_events : (x : Stored) → after_store gpo1 gpo1_value x ≡ after_setup (setup_stored J.Events x)
-stored_events (Sd.More s) = refl
-stored_events Sd.Done = refl
-stored_events (Sd.Not e) = refl
+stored_events : (x : Progress storing.Store) → after_store gpo1 gpo1_value x ≡ after_setup (setup_stored J.Events x)
+stored_events (Ok (Some s)) = refl
+stored_events (Ok None) = refl
+stored_events (Err e) = refl
 
 pub setup_bridge : (lent : List ℕ) (s : Setup) → resume_setup s ≡ ask (meant lent (setup_ask s)) (λ r. after_setup (setup_step s r.ack r.got))
 setup_bridge lent U.Identify =

@@ -8,9 +8,10 @@
 --   setup_opened, setup_stored                == in the opening of a session, in the writing of a byte
 --   next_job j                               == after the byte of the job j: RF_MNGT after I2C_CFG, then GPO1 is read; GPO1 is the last
 --   resume_setup s                           == what remains of `prepare` from s. after_setup: the same after a step
-use Rattle.std.specs.Prelude.{ℕ, List, Bool, true, false, take}
+use Rattle.std.specs.Prelude.{ℕ, List, Bool, true, false, take, Ok, Err, Some, None}
 use Rattle.slices.specs.Pick.{pick}
 use Rattle.protocol.specs.Tag.{system, gpo1, rf_mngt, i2c_cfg, mem_size, id_length, i2c_cfg_value, rf_mngt_value, gpo1_value}
+use Rattle.protocol.specs.Answer.{Progress}
 use Rattle.protocol.specs.Proc.{Proc, Res, try, fine, refuse}
 use Rattle.protocol.specs.Bus.{read_byte}
 use Rattle.protocol.specs.Setup.{is_the_part, write_system, is_set_up, reports, set_up, reporting, prepare}
@@ -21,17 +22,13 @@ use Rattle.storing.specs.Store.{store_ask, store_step, resume_store}
 use Rattle.machine.specs.declared.ask.Ask.{Ask}
 use Rattle.machine.specs.declared.ask.Ask.TheVariants.{Read}
 use Rattle.password.specs.declared.Open.TheVariants as O
-use Rattle.password.specs.declared.Opened.{Opened}
-use Rattle.password.specs.declared.Opened.TheVariants as Od
+use Rattle.password.specs.declared.Open as password
 use Rattle.storing.specs.declared.Store.TheVariants as S
-use Rattle.storing.specs.declared.Stored.{Stored}
-use Rattle.storing.specs.declared.Stored.TheVariants as Sd
+use Rattle.storing.specs.declared.Store as storing
 use Rattle.setup.specs.declared.setup.Job.{Job}
 use Rattle.setup.specs.declared.setup.Job.TheVariants as J
 use Rattle.setup.specs.declared.setup.Setup.{Setup}
 use Rattle.setup.specs.declared.setup.Setup.TheVariants.{Identify, Config, Open, Store, Events}
-use Rattle.setup.specs.declared.setup.SetupStep.{SetupStep}
-use Rattle.setup.specs.declared.setup.SetupStep.TheVariants.{More, Done, Not}
 
 abbrev pub job_place : Job → ℕ
 job_place J.Config = i2c_cfg
@@ -50,32 +47,32 @@ setup_ask (Open f o) = open_ask o
 setup_ask (Store j s) = store_ask (job_place j) (job_value j) s
 setup_ask Events = Read system gpo1 1
 
-abbrev pub identified : Bool → List ℕ → SetupStep
-identified ack got = pick ack (pick (is_the_part (take id_length got)) (More Config) (Not NotThePart)) (Not NoAnswer)
+abbrev pub identified : Bool → List ℕ → Progress Setup
+identified ack got = pick ack (pick (is_the_part (take id_length got)) (Ok (Some Config)) (Err NotThePart)) (Err NoAnswer)
 
-abbrev pub configured : Bool → ℕ → SetupStep
-configured ack v = pick ack (pick (is_set_up v) (More Events) (More (Open true O.Present))) (Not NoAnswer)
+abbrev pub configured : Bool → ℕ → Progress Setup
+configured ack v = pick ack (pick (is_set_up v) (Ok (Some Events)) (Ok (Some (Open true O.Present)))) (Err NoAnswer)
 
-abbrev pub judged : Bool → ℕ → SetupStep
-judged ack v = pick ack (pick (reports v) Done (More (Open false O.Present))) (Not NoAnswer)
+abbrev pub judged : Bool → ℕ → Progress Setup
+judged ack v = pick ack (pick (reports v) (Ok None) (Ok (Some (Open false O.Present)))) (Err NoAnswer)
 
-abbrev pub setup_opened : Bool → Opened → SetupStep
-setup_opened f (Od.More o) = More (Open f o)
-setup_opened f Od.Done = pick f (More (Store J.Config S.Send)) (More (Store J.Events S.Send))
-setup_opened f (Od.Not e) = Not e
+abbrev pub setup_opened : Bool → Progress password.Open → Progress Setup
+setup_opened f (Ok (Some o)) = Ok (Some (Open f o))
+setup_opened f (Ok None) = pick f (Ok (Some (Store J.Config S.Send))) (Ok (Some (Store J.Events S.Send)))
+setup_opened f (Err e) = Err e
 
 -- I2C_CFG, then RF_MNGT, then GPO1 is judged; GPO1 is the last
-abbrev pub next_job : Job → SetupStep
-next_job J.Config = More (Store J.Sleep S.Send)
-next_job J.Sleep = More Events
-next_job J.Events = Done
+abbrev pub next_job : Job → Progress Setup
+next_job J.Config = Ok (Some (Store J.Sleep S.Send))
+next_job J.Sleep = Ok (Some Events)
+next_job J.Events = Ok None
 
-abbrev pub setup_stored : Job → Stored → SetupStep
-setup_stored j (Sd.More s) = More (Store j s)
-setup_stored j Sd.Done = next_job j
-setup_stored j (Sd.Not e) = Not e
+abbrev pub setup_stored : Job → Progress storing.Store → Progress Setup
+setup_stored j (Ok (Some s)) = Ok (Some (Store j s))
+setup_stored j (Ok None) = next_job j
+setup_stored j (Err e) = Err e
 
-abbrev pub setup_step : Setup → Bool → List ℕ → SetupStep
+abbrev pub setup_step : Setup → Bool → List ℕ → Progress Setup
 setup_step Identify ack got = identified ack got
 setup_step Config ack got = configured ack (first got)
 setup_step (Open f o) ack got = setup_opened f (open_step o ack (first got))
@@ -93,7 +90,7 @@ resume_setup (Store J.Sleep s) = try (resume_store rf_mngt rf_mngt_value s) (λ 
 resume_setup (Store J.Events s) = resume_store gpo1 gpo1_value s
 resume_setup Events = reporting
 
-abbrev pub after_setup : SetupStep → Proc (Res Unit)
-after_setup (More s) = resume_setup s
-after_setup Done = fine
-after_setup (Not e) = refuse e
+abbrev pub after_setup : Progress Setup → Proc (Res Unit)
+after_setup (Ok (Some s)) = resume_setup s
+after_setup (Ok None) = fine
+after_setup (Err e) = refuse e

@@ -4,7 +4,6 @@ ghost use Rattle.setup.specs.Setup.{job_place, job_value, setup_ask};
 
 use machine::ask::Ask;
 use password::Open;
-use protocol::answer::TagError;
 use storing::Store;
 
 // The bytes that a setup writes: I2C_CFG, RF_MNGT, GPO1.
@@ -47,13 +46,6 @@ pub enum Setup {
     Store(Job, Store),
     // GPO1 is read.
     Events,
-}
-
-#[derive(Clone, Copy)]
-pub enum SetupStep {
-    More(Setup),
-    Done,
-    Not(TagError),
 }
 
 impl Setup {

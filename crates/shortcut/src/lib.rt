@@ -18,11 +18,11 @@ pub fn next_of(
     lent: &[u8],
     out: &[u8],
     ack: u32,
-) -> Next
+) -> Option<Next>
     ensures { Short state.now transfer.now reply.now lent.now out.now ack result }
 {
     if state.len() != STATE_LEN {
-        return Next::Not;
+        return None;
     }
     if (ack == 0)
         | (transfer.len() < 19)
@@ -30,12 +30,12 @@ pub fn next_of(
         | (lent.len() != 0)
         | (out.len() != 0)
     {
-        return Next::Not;
+        return None;
     }
     let f = flat_of(state);
     let c = f.code;
     if wipes(f.stage, c.which) & (f.lent == 0) & (f.mark <= Session::USER_MEMORY) {
         return noted(f, moves(f, reply));
     }
-    Next::Not
+    None
 }

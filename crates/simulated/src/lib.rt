@@ -16,7 +16,7 @@ use part::registers::Registers;
 use slices::copy_to;
 use taking::taken;
 
-// Whether a transfer was acknowledged, and the registers after it.
+// Whether a transfer was acknowledged, and the registers after it. They are there either way, so this is no Result.
 #[derive(Clone, Copy)]
 pub struct Answer {
     pub ack: bool,

@@ -1,4 +1,4 @@
-// Everything that C calls. Numbers, lent bytes and thin references only.
+// Everything that C calls. Numbers, lent bytes and thin references only: a function for each name, and each of a buffer's parts by itself.
 #![tactic(auto)]
 
 pub mod images;

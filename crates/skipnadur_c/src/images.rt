@@ -1,7 +1,7 @@
 // Images for C: each export is the function of `skipnadur::images` that has its name, with the same clauses.
 ghost use Rattle.std.specs.Prelude.{◌≡◌, ◌%◌, length};
 ghost use Rattle.layout.specs.Lengths.{sat, image_len, uri_payload_len, text_payload_len};
-ghost use Rattle.layout.specs.Container.{container_answer, read_only};
+ghost use Rattle.layout.specs.Container.{container_answer, container_bytes, read_only};
 ghost use Rattle.layout.specs.Numbers.{verdict_number};
 ghost use Rattle.layout.specs.Image.{empty_image, text_image, uri_image, mime_image};
 ghost use Rattle.scan.specs.Zeros.{high_water};
@@ -58,7 +58,7 @@ pub extern "C" fn skp_high_water(image: &[u8]) -> usize
 
 #[unsafe(no_mangle)]
 pub extern "C" fn skp_capability_container(area: usize, container: &mut [u8; 8]) -> u32
-    ensures { (result ≡ verdict_number (container_answer area).verdict) × (container.new ≡ (container_answer area).bytes) }
+    ensures { (result ≡ verdict_number (container_answer area)) × (container.new ≡ container_bytes (container_answer area)) }
 {
     skipnadur::images::skp_capability_container(area, container)
 }

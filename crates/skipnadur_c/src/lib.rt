@@ -1,4 +1,4 @@
-// What C links: each export is a function of `skipnadur`, with the same clauses.
+// What C links: each export is a function of `skipnadur`, with the same clauses. Both stand because a static library exports and no crate can use it.
 #![tactic(auto)]
 
 pub mod images;

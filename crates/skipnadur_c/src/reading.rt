@@ -1,5 +1,5 @@
 // Reading for C: each export is the function of `skipnadur::reading` that has its name, with the same clauses.
-ghost use Rattle.std.specs.Prelude.{◌≡◌, length};
+ghost use Rattle.std.specs.Prelude.{◌≡◌, length, is_some};
 ghost use Rattle.blocks.specs.Read.{read_of, number_of};
 ghost use Rattle.pieces.specs.Parts.{is_of};
 ghost use Rattle.walk.specs.Step.{start_of};
@@ -9,7 +9,7 @@ ghost use Rattle.contents.specs.Contents.{text_of};
 ghost use Rattle.links.specs.Links.{uri_of};
 ghost use Rattle.plain.specs.Reading.{cursor_of, cursor_numbers, record_of, entry_number, entry_places, yes};
 ghost use Rattle.places.specs.Places.{part_number, part_numbers, kind_part, id_part, payload_part};
-ghost use Rattle.says.specs.Says.{link_number, link_numbers};
+ghost use Rattle.says.specs.Says.{link_number, link_numbers, in_row, row_len};
 ghost use Rattle.messages.specs.Messages.{message_of, padded};
 
 #[unsafe(no_mangle)]
@@ -65,9 +65,9 @@ pub extern "C" fn skp_uri(image: &[u8], places: &[usize; 6], values: &mut [usize
 
 #[unsafe(no_mangle)]
 pub extern "C" fn skp_uri_prefix(code: u8, prefix: &mut [u8; 26], len: &mut usize) -> u32
-    ensures value { result ≡ yes (prefix_answer code).known }
-    ensures prefix_after { prefix.new ≡ (prefix_answer code).prefix.bytes }
-    ensures len_after { len.new ≡ (prefix_answer code).prefix.len }
+    ensures value { result ≡ yes (is_some (prefix_answer code)) }
+    ensures prefix_after { prefix.new ≡ in_row (prefix_answer code) }
+    ensures len_after { len.new ≡ row_len (prefix_answer code) }
 {
     skipnadur::reading::skp_uri_prefix(code, prefix, len)
 }

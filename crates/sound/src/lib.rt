@@ -10,7 +10,7 @@ use machine::switch::Switch;
 use machine::wait::Wait;
 use password::Open;
 use ranged::past;
-use session::session::{Now, Session};
+use session::session::Session;
 use setup::setup::Setup;
 use stages::stage::Stage;
 use storing::Store;
@@ -81,7 +81,8 @@ fn off_sound(s: Switch) -> bool
     }
 }
 
-// Where a chunk of the wipe from the mark m stops; 0 for a chunk that it does not have.
+// Where a chunk of the wipe from the mark m stops; 0 for a chunk that it does not have, so that one comparison tells both: a row or a count of
+// rows is held against it as it is.
 pub fn chunk_stop(m: usize, p: Chunk) -> usize
     requires { m ≤ 8192 }
     ensures { (result ≡ chunk_stop m p) × (result ≤ 8192) }
@@ -97,7 +98,7 @@ pub fn chunk_stop(m: usize, p: Chunk) -> usize
     let left = (end - at - 1) / 64;
     if (at % 64 == 0) & (p.left == left) {
         let stop = at + 64;
-        return if end < stop { end } else { stop };
+        return end.min(stop);
     }
     0
 }
@@ -156,6 +157,7 @@ fn rows_to(start: usize, end: usize) -> usize
     (end - 1) / 16 - start / 16 + 1
 }
 
+// 0, as the definition has it, where the numbers are of no such piece.
 fn piece_rows(m: usize, len: usize, p: Piece) -> usize
     requires { m ≤ 8192 }
     ensures { result ≡ piece_rows m len p }
@@ -172,6 +174,7 @@ fn piece_rows(m: usize, len: usize, p: Piece) -> usize
     0
 }
 
+// 0, as the definition has it, where the numbers are of no such chunk.
 fn check_rows(m: usize, len: usize, c: Check) -> usize
     requires { m ≤ 8192 }
     ensures { result ≡ check_rows m len c }
@@ -235,13 +238,13 @@ fn stage_sound(m: usize, rows: usize, lent: usize, st: Stage) -> bool
     }
 }
 
-fn now_sound(m: usize, rows: usize, lent: usize, now: Now) -> bool
+fn now_sound(m: usize, rows: usize, lent: usize, now: Option<Stage>) -> bool
     requires { m ≤ 8192 }
     ensures { result ≡ now_sound m rows lent now }
 {
     match now {
-        Now::Idle => plain(rows, lent),
-        Now::Open(st) => stage_sound(m, rows, lent, st),
+        None => plain(rows, lent),
+        Some(st) => stage_sound(m, rows, lent, st),
     }
 }
 

@@ -18,35 +18,31 @@
 --   lent_to c                    == the bytes that are lent to it
 --   wipe_start m                 == the wipe from its first chunk, or over at once
 --   finish_start m stuck         == the same for the wipe of `finish`
-use Rattle.std.specs.Prelude.{ℕ, ◌+◌, eqb, List, [], Bool, true, false, length, take}
+use Rattle.std.specs.Prelude.{ℕ, ◌+◌, eqb, List, [], Bool, true, false, length, take, Result, Ok, Err, Some, None}
 use Rattle.slices.specs.Pick.{pick}
 use Rattle.protocol.specs.Tag.{user, user_memory, system, mem_size, id_length, it_sts_dyn, wrote_bit}
 use Rattle.protocol.specs.Mark.{Mark, none, whole, widened, found, is_none, wipe_end}
 use Rattle.protocol.specs.Write.{past}
+use Rattle.protocol.specs.Answer.{Progress}
 use Rattle.protocol.specs.Call.{Call}
 use Rattle.protocol.specs.Call as call
 use Rattle.setup.specs.declared.setup.Setup.TheVariants as I
+use Rattle.protocol.specs.declared.answer.TagError.{TagError}
 use Rattle.protocol.specs.declared.answer.Answer.{Answer}
-use Rattle.protocol.specs.declared.answer.Answer.TheVariants.{Done, Wrote, Not}
-use Rattle.protocol.specs.declared.answer.TagError.TheVariants.{NoAnswer, Busy, RfStuck, NotTaken}
+use Rattle.protocol.specs.declared.answer.Answer.TheVariants.{Done, Wrote}
+use Rattle.protocol.specs.declared.answer.TagError.TheVariants.{NoAnswer, RfStuck, NotTaken}
 use Rattle.machine.specs.Ask.{first}
 use Rattle.machine.specs.Wait.{wait_new, wait_ask, wait_step}
-use Rattle.machine.specs.Switch.{switch_new, switch_ask, switch_step}
+use Rattle.machine.specs.Switch.{Switched, switch_new, switch_ask, switch_step}
 use Rattle.setup.specs.Setup.{setup_ask, identified, setup_step}
 use Rattle.wipe.specs.Scrub.{scrub_new, scrub_ask, scrub_step}
 use Rattle.writing.specs.Write.{write_new, write_ask, write_step}
 use Rattle.machine.specs.declared.ask.Ask.{Ask}
 use Rattle.machine.specs.declared.ask.Ask.TheVariants as A
-use Rattle.machine.specs.declared.wait.Waited.{Waited}
-use Rattle.machine.specs.declared.wait.Waited.TheVariants as W
-use Rattle.machine.specs.declared.switch.Switched.{Switched}
-use Rattle.machine.specs.declared.switch.Switched.TheVariants as S
-use Rattle.setup.specs.declared.setup.SetupStep.{SetupStep}
-use Rattle.setup.specs.declared.setup.SetupStep.TheVariants as U
-use Rattle.wipe.specs.declared.scrub.Scrubbed.{Scrubbed}
-use Rattle.wipe.specs.declared.scrub.Scrubbed.TheVariants as C
-use Rattle.writing.specs.declared.write.Written.{Written}
-use Rattle.writing.specs.declared.write.Written.TheVariants as R
+use Rattle.machine.specs.declared.wait.Wait.{Wait}
+use Rattle.setup.specs.declared.setup.Setup.{Setup}
+use Rattle.wipe.specs.declared.scrub.Scrub.{Scrub}
+use Rattle.writing.specs.declared.write.Write.{Write}
 use Rattle.stages.specs.declared.stage.Stage.{Stage}
 use Rattle.stages.specs.declared.stage.Stage.TheVariants as G
 use Rattle.stages.specs.declared.stage.Turn.{Turn}
@@ -78,67 +74,67 @@ wrote_byte ack v = pick ack (wrote_bit v) true
 abbrev pub wrote : Bool → List ℕ → Bool
 wrote ack got = wrote_byte ack (first got)
 
-abbrev pub identify_turn : Mark → SetupStep → Turn
-identify_turn m (U.More s) = Over m Done
-identify_turn m U.Done = Over m Done
-identify_turn m (U.Not e) = Over m (Not e)
+abbrev pub identify_turn : Mark → Progress Setup → Turn
+identify_turn m (Ok (Some s)) = Over m (Ok Done)
+identify_turn m (Ok None) = Over m (Ok Done)
+identify_turn m (Err e) = Over m (Err e)
 
-abbrev pub prepare_turn : Mark → SetupStep → Turn
-prepare_turn m (U.More s) = Open m (G.Prepare s)
-prepare_turn m U.Done = Over m Done
-prepare_turn m (U.Not e) = Over m (Not e)
+abbrev pub prepare_turn : Mark → Progress Setup → Turn
+prepare_turn m (Ok (Some s)) = Open m (G.Prepare s)
+prepare_turn m (Ok None) = Over m (Ok Done)
+prepare_turn m (Err e) = Over m (Err e)
 
-abbrev pub wait_turn : Mark → Waited → Turn
-wait_turn m (W.More w) = Open m (G.WaitReady w)
-wait_turn m W.Ready = Over m Done
-wait_turn m W.Busy = Over m (Not Busy)
+abbrev pub wait_turn : Mark → Progress Wait → Turn
+wait_turn m (Ok (Some w)) = Open m (G.WaitReady w)
+wait_turn m (Ok None) = Over m (Ok Done)
+wait_turn m (Err e) = Over m (Err e)
 
-abbrev pub write_turn : Mark → Written → Turn
-write_turn m (R.More w) = Open m (G.Write w)
-write_turn m R.Done = Over m Done
-write_turn m (R.Not e) = Over m (Not e)
+abbrev pub write_turn : Mark → Progress Write → Turn
+write_turn m (Ok (Some w)) = Open m (G.Write w)
+write_turn m (Ok None) = Over m (Ok Done)
+write_turn m (Err e) = Over m (Err e)
 
 abbrev pub switch_turn : Mark → Switched → Turn
-switch_turn m (S.More s) = Open m (G.Switching s)
-switch_turn m S.Done = Over m Done
-switch_turn m S.Stuck = Over m (Not RfStuck)
+switch_turn m (Ok (Some s)) = Open m (G.Switching s)
+switch_turn m (Ok None) = Over m (Ok Done)
+switch_turn m (Err _) = Over m (Err RfStuck)
 
 abbrev pub whole_turn : Mark → Switched → Turn
-whole_turn m (S.More s) = Open m (G.WholeOff s)
-whole_turn m S.Done = Open m G.WholeStatus
-whole_turn m S.Stuck = Over m (Not RfStuck)
+whole_turn m (Ok (Some s)) = Open m (G.WholeOff s)
+whole_turn m (Ok None) = Open m G.WholeStatus
+whole_turn m (Err _) = Over m (Err RfStuck)
 
-abbrev pub wipe_turn : Mark → Scrubbed → Turn
-wipe_turn m (C.More s) = Open m (G.Wipe s)
-wipe_turn m C.Done = Over none Done
-wipe_turn m (C.Not e) = Over m (Not e)
+abbrev pub wipe_turn : Mark → Progress Scrub → Turn
+wipe_turn m (Ok (Some s)) = Open m (G.Wipe s)
+wipe_turn m (Ok None) = Over none (Ok Done)
+wipe_turn m (Err e) = Over m (Err e)
 
 abbrev pub wipe_start : Mark → Turn
 wipe_start m = wipe_turn m (scrub_new (wipe_end m))
 
-abbrev pub begin_turn : Mark → SetupStep → Turn
-begin_turn m (U.More s) = Open m (G.BeginSetup s)
-begin_turn m U.Done = Open m (G.BeginOff (switch_new false))
-begin_turn m (U.Not e) = Over m (Not e)
+abbrev pub begin_turn : Mark → Progress Setup → Turn
+begin_turn m (Ok (Some s)) = Open m (G.BeginSetup s)
+begin_turn m (Ok None) = Open m (G.BeginOff (switch_new false))
+begin_turn m (Err e) = Over m (Err e)
 
 abbrev pub begin_off_turn : Mark → Switched → Turn
-begin_off_turn m (S.More s) = Open m (G.BeginOff s)
-begin_off_turn m S.Done = pick (is_none m) (Over m Done) (wipe_start m)
-begin_off_turn m S.Stuck = Over m (Not RfStuck)
+begin_off_turn m (Ok (Some s)) = Open m (G.BeginOff s)
+begin_off_turn m (Ok None) = pick (is_none m) (Over m (Ok Done)) (wipe_start m)
+begin_off_turn m (Err _) = Over m (Err RfStuck)
 
 abbrev pub finish_off_turn : Mark → Switched → Turn
-finish_off_turn m (S.More s) = Open m (G.FinishOff s)
-finish_off_turn m S.Done = Open m (G.FinishStatus false)
-finish_off_turn m S.Stuck = Open m (G.FinishStatus true)
+finish_off_turn m (Ok (Some s)) = Open m (G.FinishOff s)
+finish_off_turn m (Ok None) = Open m (G.FinishStatus false)
+finish_off_turn m (Err _) = Open m (G.FinishStatus true)
 
 -- the first refusal is the one returned
-abbrev pub first_answer : Bool → Answer → Answer
-first_answer stuck a = pick stuck (Not RfStuck) a
+abbrev pub first_answer : Bool → Result Answer TagError → Result Answer TagError
+first_answer stuck a = pick stuck (Err RfStuck) a
 
-abbrev pub finish_turn : Mark → Bool → Scrubbed → Turn
-finish_turn m stuck (C.More s) = Open m (G.FinishWipe stuck s)
-finish_turn m stuck C.Done = Over none (first_answer stuck Done)
-finish_turn m stuck (C.Not e) = Over m (first_answer stuck (Not e))
+abbrev pub finish_turn : Mark → Bool → Progress Scrub → Turn
+finish_turn m stuck (Ok (Some s)) = Open m (G.FinishWipe stuck s)
+finish_turn m stuck (Ok None) = Over none (first_answer stuck (Ok Done))
+finish_turn m stuck (Err e) = Over m (first_answer stuck (Err e))
 
 abbrev pub finish_start : Mark → Bool → Turn
 finish_start m stuck = finish_turn m stuck (scrub_new (wipe_end m))
@@ -148,11 +144,11 @@ abbrev pub status_turn : Mark → Bool → Bool → ℕ → Turn
 status_turn m stuck ack v = pick (wrote_byte ack v) (finish_start whole stuck) (finish_start m stuck)
 
 abbrev pub read_turn : Mark → Bool → Turn
-read_turn m ack = pick ack (Over m Done) (Over m (Not NoAnswer))
+read_turn m ack = pick ack (Over m (Ok Done)) (Over m (Err NoAnswer))
 
 -- after the whole memory was read
 abbrev pub whole_read_turn : Mark → Bool → List ℕ → Turn
-whole_read_turn m ack out = pick ack (Over (found (take user_memory out)) Done) (Over m (Not NoAnswer))
+whole_read_turn m ack out = pick ack (Over (found (take user_memory out)) (Ok Done)) (Over m (Err NoAnswer))
 
 abbrev pub stage_step : List ℕ → Mark → Stage → Bool → List ℕ → Turn
 stage_step lent m G.Identify ack got = identify_turn m (identified ack got)
@@ -161,7 +157,7 @@ stage_step lent m (G.WaitReady w) ack got = wait_turn m (wait_step w ack)
 stage_step lent m (G.ReadUser at k) ack got = read_turn m ack
 stage_step lent m (G.Write w) ack got = write_turn m (write_step w ack got lent)
 stage_step lent m (G.Switching s) ack got = switch_turn m (switch_step s ack (first got))
-stage_step lent m G.RfWrote ack got = Over m (Wrote (wrote ack got))
+stage_step lent m G.RfWrote ack got = Over m (Ok (Wrote (wrote ack got)))
 stage_step lent m (G.WholeOff s) ack got = whole_turn m (switch_step s ack (first got))
 stage_step lent m G.WholeStatus ack got = Open m G.WholeRead
 stage_step lent m G.WholeRead ack got = whole_read_turn m ack got
@@ -177,13 +173,13 @@ abbrev pub start_of : Call → Mark → Turn
 start_of call.identify m = Open m G.Identify
 start_of call.prepare m = Open m (G.Prepare I.Identify)
 start_of call.wait_ready m = Open m (G.WaitReady wait_new)
-start_of (call.read_user at n) m = pick (past at n) (Over m (Not NotTaken)) (Open m (G.ReadUser at n))
+start_of (call.read_user at n) m = pick (past at n) (Over m (Err NotTaken)) (Open m (G.ReadUser at n))
 start_of (call.write at bs) m =
-    pick (past at (length bs)) (Over m (Not NotTaken)) (write_turn (widened m at (at + length bs)) (write_new at (length bs)))
+    pick (past at (length bs)) (Over m (Err NotTaken)) (write_turn (widened m at (at + length bs)) (write_new at (length bs)))
 start_of call.rf_off m = Open m (G.Switching (switch_new false))
 start_of call.rf_on m = Open m (G.Switching (switch_new true))
 start_of call.rf_wrote m = Open m G.RfWrote
-start_of (call.read_whole n) m = pick (eqb n user_memory) (Open m (G.WholeOff (switch_new false))) (Over m (Not NotTaken))
+start_of (call.read_whole n) m = pick (eqb n user_memory) (Open m (G.WholeOff (switch_new false))) (Over m (Err NotTaken))
 start_of call.scrub m = wipe_start m
 start_of call.begin m = Open m (G.BeginSetup I.Identify)
 start_of call.go_live m = Open m G.LiveStatus

@@ -1,7 +1,7 @@
 // What is under way in a session.
 use machine::switch::Switch;
 use machine::wait::Wait;
-use protocol::answer::Answer;
+use protocol::answer::{Answer, TagError};
 use setup::setup::Setup;
 use wipe::scrub::Scrub;
 use writing::write::Write;
@@ -28,15 +28,16 @@ pub enum Stage {
     BeginOff(Switch),
     // go_live: the status.
     LiveStatus,
-    // finish: RF off; the status and the wipe, with whether RF was stuck.
+    // finish: RF off; the status and the wipe, with whether RF was stuck, which is a byte of the state that C lends.
     FinishOff(Switch),
     FinishStatus(bool),
     FinishWipe(bool, Scrub),
 }
 
-// Where a reply leads, with the mark after it.
+// Where a reply leads, with the mark after it. Both ways go on with a mark, so it is no Result of one of them; and the mark is a number and no
+// type of its own with a bound: `stage_step` and `entered` are of every mark.
 #[derive(Clone, Copy)]
 pub enum Turn {
     Open(usize, Stage),
-    Over(usize, Answer),
+    Over(usize, Result<Answer, TagError>),
 }

@@ -1,30 +1,26 @@
--- Laws of `left_in`: one byte more, and what 0 says.
+-- Laws of `left_in`: the count, and what 0 says.
 use mathlib.Core.Path.{◌≡◌, refl, ap, sym, ◌∙◌}
 use mathlib.Core.Bool.{Bool, true, false, not, ◌&&◌}
-use mathlib.Core.List.{List, [], ◌∷◌, ◌++◌}
-use Prim.Native.Nat.{ℕ, ◌+◌, ◌<◌, ◌≤◌}
+use mathlib.Core.List.{List, [], ◌∷◌}
+use Prim.Native.Nat.{ℕ, ◌+◌, ◌≤◌}
 use native.Mathlib.Omega.{arith}
-use native.Mathlib.Numerals.{add-one}
-use lib.ListN.{length, get_or, take}
-use lib.Seq.{take-suc, take_all}
+use lib.ListN.{length, take}
+use lib.Seq.{take_all}
 use lib.Dec.{eqb}
 use Rattle.scan.specs.Zeros.{blank}
+use Rattle.std.specs.Prelude.{count_by, cond}
+use Rattle.std.proofs.lemmas.List.Sums.{sum_by-cons}
 use Rattle.stand.specs.Left.{one_if, left_in}
 
-left-last : (s : List ℕ) (b : ℕ) → left_in (s ++ b ∷ []) ≡ left_in s + one_if (not (eqb b 0))
+-- the bytes that are not zero, counted
+pub left_counts : (s : List ℕ) → left_in s ≡ count_by (λ b. not (eqb b 0)) s
 unfolding left_in
-left-last [] b = omega arith
-left-last (x ∷ xs) b = omega (arith, left-last xs b)
-
--- the first bytes with one more
-pub left-more : (s : List ℕ) (i : ℕ) → i < length s → left_in (take i s) + one_if (not (eqb (get_or s i 0) 0)) ≡ left_in (take (i + 1) s)
-left-more s i h =
-    sym (left-last (take i s) (get_or s i 0)) ∙ ap left_in (sym (take-suc s i 0 h) ∙ ap (λ (n : ℕ). take n s) (sym (add-one i)))
-
-pub left-none : (s : List ℕ) → 0 ≡ left_in (take 0 s)
-unfolding left_in
-left-none [] = refl
-left-none (x ∷ xs) = refl
+left_counts [] = refl
+left_counts (x ∷ xs) = at (eqb x 0) (left_counts xs) ∙ sym (sum_by-cons (λ b. cond (not (eqb b 0)) 1 0) x xs)
+  where
+    at : (b : Bool) → left_in xs ≡ count_by (λ b. not (eqb b 0)) xs → one_if (not b) + left_in xs ≡ cond (not b) 1 0 + count_by (λ b. not (eqb b 0)) xs
+    at true e = ap (λ (n : ℕ). 0 + n) e
+    at false e = ap (λ (n : ℕ). 1 + n) e
 
 pub left_all : (s : List ℕ) (i : ℕ) → length s ≤ i → left_in (take i s) ≡ left_in s
 left_all s i h = ap left_in (take_all i s h)

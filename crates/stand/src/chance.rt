@@ -16,20 +16,16 @@ pub fn below(x: u64, n: u64) -> u64 {
 
 // One time in `n`, by the state's low half: it goes with no number that `below` gives.
 pub fn rarely(x: u64, n: u64) -> bool {
-    if n == 0 {
-        return false;
-    }
-    x % 0x1_0000_0000 % n == 0
+    n != 0 && x % 0x1_0000_0000 % n == 0
 }
 
-// How long the next cycle takes: below `pace` milliseconds; always the longest, 99, where `pace` is 0.
-pub fn cycle(x: u64, pace: u64) -> u8
+// How long the next cycle takes: below `pace` milliseconds; always the longest, 99, where there is none.
+pub fn cycle(x: u64, pace: Option<u64>) -> u8
     ensures { result ≤ 99 }
 {
-    if pace == 0 {
-        99
-    } else {
-        (below(x, pace) % 100) as u8
+    match pace {
+        Some(pace) => (below(x, pace) % 100) as u8,
+        None => 99,
     }
 }
 
@@ -38,11 +34,9 @@ pub fn fill(into: &mut [u8], x: u64) -> u64
     ensures { length into.new ≡ length into.old }
 {
     let mut y = x;
-    let mut i = 0;
-    while i < into.len() {
+    for b in into {
         y = next(y);
-        into[i] = ((y >> 40) % 256) as u8;
-        i += 1;
+        *b = ((y >> 40) % 256) as u8;
     }
     y
 }

@@ -1,8 +1,5 @@
 // What the trials add up to.
-ghost use Rattle.std.specs.Prelude.{◌≡◌, ◌≤◌};
-ghost use Rattle.stand.specs.Left.{one_if};
-
-use crate::bench::{Bench, kind, more, number};
+use crate::bench::{Bench, more};
 
 #[derive(Clone, Copy)]
 pub struct Tally {
@@ -18,8 +15,8 @@ pub struct Tally {
     pub refused: u64,
     pub open: u64,
     pub left: u64,
-    // The first cut after which something was wrong; 0 for none.
-    pub wrong: u64,
+    // The first cut after which something was wrong.
+    pub wrong: Option<u64>,
     // The longest recovery, in transfers and in milliseconds; and all transfers, of sessions and recoveries.
     pub longest: u64,
     pub slowest: u64,
@@ -27,102 +24,86 @@ pub struct Tally {
     pub chance: u64,
 }
 
-pub fn none(seed: u64) -> Tally {
-    Tally {
-        steps: 0,
-        cuts: 0,
-        transferred: 0,
-        delays: 0,
-        cycles: 0,
-        again: 0,
-        refused: 0,
-        open: 0,
-        left: 0,
-        wrong: 0,
-        longest: 0,
-        slowest: 0,
-        transfers: 0,
-        chance: seed,
+// When a cut came: right after a delay, or else after a transfer; inside a write cycle; and whether its recovery was cut as well.
+#[derive(Clone, Copy)]
+pub struct Cut {
+    pub delayed: bool,
+    pub cycling: bool,
+    pub again: bool,
+}
+
+fn count(n: &mut u64, one: bool) {
+    *n = more(*n, u64::from(one));
+}
+
+impl Tally {
+    // Nothing yet.
+    pub fn new(chance: u64) -> Tally {
+        Tally {
+            steps: 0,
+            cuts: 0,
+            transferred: 0,
+            delays: 0,
+            cycles: 0,
+            again: 0,
+            refused: 0,
+            open: 0,
+            left: 0,
+            wrong: None,
+            longest: 0,
+            slowest: 0,
+            transfers: 0,
+            chance,
+        }
     }
-}
 
-fn greater(a: u64, b: u64) -> u64 {
-    if a < b { b } else { a }
-}
-
-pub fn one(b: bool) -> u64
-    ensures { (result ≡ one_if b) × (result ≤ 1) }
-{
-    if b { 1 } else { 0 }
-}
-
-// Whether the recovery answered Ok.
-pub fn answered(e: Bench) -> bool {
-    (kind(e.step) == 0) & (number(e.step) == 0)
-}
-
-// Whether RF is off and nothing is marked.
-pub fn closed(e: Bench) -> bool {
-    let r = e.registers;
-    (r.rf != 0) & (e.dirty == 0)
-}
-
-// One more step of a session.
-pub fn stepped(mut t: Tally) -> Tally {
-    t.steps = more(t.steps, 1);
-    t
-}
-
-// A cut that is only counted.
-pub fn counted(mut t: Tally) -> Tally {
-    t.cuts = more(t.cuts, 1);
-    t
-}
-
-// The end of a session's own call.
-pub fn ended(mut t: Tally, e: Bench) -> Tally {
-    if answered(e) {
-        return t;
+    // One more step of a session.
+    pub fn step(&mut self) {
+        count(&mut self.steps, true);
     }
-    t.refused = more(t.refused, 1);
-    t.wrong = if t.wrong == 0 {
-        more(t.cuts, 1)
-    } else {
-        t.wrong
-    };
-    t
-}
 
-// The end of a session: its transfers, and what it left itself.
-pub fn closing(mut t: Tally, e: Bench, left: u64) -> Tally {
-    t.transfers = more(t.transfers, e.carried);
-    t.left = more(t.left, left);
-    t.wrong = if (t.wrong == 0) & (left != 0) {
-        more(t.cuts, 1)
-    } else {
-        t.wrong
-    };
-    t
-}
+    // A cut that is only counted.
+    pub fn count_cut(&mut self) {
+        count(&mut self.cuts, true);
+    }
 
-// One more cut, after a delay or a transfer, inside a cycle or not: what the recovery ended in, and the bytes that it left.
-pub fn tallied(t: Tally, delayed: bool, cycling: bool, again: bool, e: Bench, left: u64) -> Tally {
-    let fine = answered(e) & closed(e) & (left == 0);
-    let cuts = more(t.cuts, 1);
-    Tally {
-        steps: t.steps,
-        cuts,
-        transferred: more(t.transferred, one(!delayed)),
-        delays: more(t.delays, one(delayed)),
-        cycles: more(t.cycles, one(cycling)),
-        again: more(t.again, one(again)),
-        refused: more(t.refused, one(!answered(e))),
-        open: more(t.open, one(!closed(e))),
-        left: more(t.left, left),
-        wrong: if fine | (t.wrong != 0) { t.wrong } else { cuts },
-        longest: greater(t.longest, e.transfers),
-        slowest: greater(t.slowest, e.ms),
-        transfers: more(t.transfers, e.carried),
-        chance: e.chance,
+    // The end of a session's own call.
+    pub fn end(&mut self, e: Bench) {
+        if !e.is_ok() {
+            count(&mut self.refused, true);
+            self.note_wrong(more(self.cuts, 1));
+        }
+    }
+
+    // The end of a session: its transfers, and what it left itself.
+    pub fn close(&mut self, e: Bench, left: u64) {
+        self.transfers = more(self.transfers, e.carried);
+        self.left = more(self.left, left);
+        if left != 0 {
+            self.note_wrong(more(self.cuts, 1));
+        }
+    }
+
+    fn note_wrong(&mut self, cut: u64) {
+        self.wrong = self.wrong.or(Some(cut));
+    }
+
+    // One more cut: what the recovery ended in, and the bytes that it left.
+    pub fn add(&mut self, cut: Cut, e: Bench, left: u64) {
+        self.count_cut();
+        count(&mut self.transferred, !cut.delayed);
+        count(&mut self.delays, cut.delayed);
+        count(&mut self.cycles, cut.cycling);
+        count(&mut self.again, cut.again);
+        count(&mut self.refused, !e.is_ok());
+        count(&mut self.open, !e.is_closed());
+        self.left = more(self.left, left);
+        if !e.is_ok() || !e.is_closed() || left != 0 {
+            self.note_wrong(self.cuts);
+        }
+        self.longest = self.longest.max(e.transfers);
+        self.slowest = self.slowest.max(e.ms);
+        self.transfers = more(self.transfers, e.carried);
+        self.chance = e.chance;
     }
 }

@@ -7,8 +7,9 @@ ghost use Rattle.telling.specs.Left.{Leaves, start_left};
 ghost use Rattle.calling.specs.Calling.{named};
 
 use calling::Call;
-use opening::{mark_of, opened_at};
-use settling::started;
+use opening::opened_at;
+use settling::settle;
+use telling::step::step;
 
 // `lent` is what the call takes: the bytes of a write, and nothing for the others.
 pub fn start(state: &mut [u8], transfer: &mut [u8], reply: &mut [u8], lent: &[u8], c: Call) -> u64
@@ -16,6 +17,8 @@ pub fn start(state: &mut [u8], transfer: &mut [u8], reply: &mut [u8], lent: &[u8
     ensures { Leaves (start_left (named c lent.now) state.old transfer.old reply.old) result state.new transfer.new reply.new }
 {
     let o = opened_at(state, transfer.len(), reply.len());
-    let m = mark_of(o);
-    started(state, transfer, reply, lent, o, calling::start(c, m, lent))
+    match o {
+        Ok(m) => settle(state, transfer, reply, lent, 0, calling::start(c, m, lent)),
+        Err(e) => step(0, u8::from(e), 0, 0),
+    }
 }

@@ -12,7 +12,7 @@
 --   same_stage st tag c p == tag, c and p are the numbers of the stage st
 --   decode_flat f      == the session whose numbers f are; nothing where they are none's, or calls do not leave it
 --   decode_of l        == the session that the bytes l are a state of; nothing where they are none that calls leave
-use Rattle.std.specs.Prelude.{ℕ, ◌+◌, ◌*◌, ◌/◌, ◌%◌, List, [], ◌∷◌, Bool, ◌&&◌, eqb, length, get_or}
+use Rattle.std.specs.Prelude.{ℕ, ◌+◌, ◌*◌, ◌/◌, ◌%◌, List, [], ◌∷◌, Bool, ◌&&◌, eqb, length, get_or, Option, Some, None}
 use Rattle.slices.specs.Pick.{pick}
 use Rattle.session.specs.Sound.{sound}
 use Rattle.session.specs.declared.session.Session.{Session}
@@ -22,8 +22,6 @@ use Rattle.numbers.specs.From.{session_from}
 use Rattle.numbers.specs.declared.flat.Code.{Code}
 use Rattle.numbers.specs.declared.flat.Place.{Place}
 use Rattle.numbers.specs.declared.flat.Flat.{Flat}
-use Rattle.state.specs.declared.decode.Decoded.{Decoded}
-use Rattle.state.specs.declared.decode.Decoded.TheVariants.{State, Nothing}
 
 abbrev pub state_length : ℕ
 state_length = 20
@@ -66,8 +64,8 @@ same_flat a b = eqb a.stage b.stage && same_code a.code b.code && same_place a.p
 abbrev pub same_stage : Stage → ℕ → Code → Place → Bool
 same_stage st tag c p = eqb (stage_tag st) tag && same_code (stage_code st) c && same_place (stage_place st) p
 
-abbrev pub decode_flat : Flat → Decoded
-decode_flat f = pick (same_flat (flatten (session_from f)) f && sound (session_from f)) (State (session_from f)) Nothing
+abbrev pub decode_flat : Flat → Option Session
+decode_flat f = pick (same_flat (flatten (session_from f)) f && sound (session_from f)) (Some (session_from f)) None
 
-abbrev pub decode_of : List ℕ → Decoded
-decode_of l = pick (eqb (length l) state_length) (decode_flat (flat_of l)) Nothing
+abbrev pub decode_of : List ℕ → Option Session
+decode_of l = pick (eqb (length l) state_length) (decode_flat (flat_of l)) None

@@ -4,10 +4,10 @@ ghost use Rattle.std.specs.Prelude.{◌≡◌, ◌+◌, ◌<◌, length};
 ghost use Rattle.state.specs.Bytes.{bytes_of, two_at, code_in, place_in, flat_of};
 
 use numbers::flat::{Code, Flat, Place};
-use slices::wide;
 
 pub const STATE_LEN: usize = 20;
 
+// Each byte by itself, as the definition `bytes_of` has them: joined from the numbers' own bytes the array would be put together in parts.
 pub fn bytes(f: Flat) -> [u8; 20]
     ensures { result ≡ bytes_of f }
 {
@@ -42,8 +42,8 @@ fn two(b: &[u8], at: usize) -> usize
     requires { at + 1 < length b.now }
     ensures { result ≡ two_at b.now at }
 {
-    let low = wide(b[at]);
-    let high = wide(b[at + 1]);
+    let low = usize::from(b[at]);
+    let high = usize::from(b[at + 1]);
     low + 256 * high
 }
 

@@ -43,7 +43,8 @@ pub fn stage_ask(st: Stage, len: usize) -> Ask
     }
 }
 
-// The bytes that were read stand in `out` after the read of the whole memory, else in `reply`.
+// The bytes that were read stand in `out` after the read of the whole memory, else in `reply`. That a reply has 64 bytes is asked here and below: C
+// lends slices of any length, and `hearing` tests them once.
 pub fn stage_step(st: Stage, m: usize, ack: bool, reply: &[u8], lent: &[u8], out: &[u8]) -> Turn
     requires { Able (length lent.now) (length out.now) st × (m ≤ 8192) × (64 ≤ length reply.now) }
     ensures { result ≡ stage_step lent.now m st ack (got_by st reply.now out.now) }
@@ -55,7 +56,7 @@ pub fn stage_step(st: Stage, m: usize, ack: bool, reply: &[u8], lent: &[u8], out
         Stage::ReadUser(_, _) => read_turn(m, ack),
         Stage::Write(w) => write_turn(m, programming::step(w, ack, reply, lent)),
         Stage::Switching(s) => switch_turn(m, flipping::step(s, ack, reply[0])),
-        Stage::RfWrote => Turn::Over(m, Answer::Wrote(wrote(ack, reply[0]))),
+        Stage::RfWrote => Turn::Over(m, Ok(Answer::Wrote(wrote(ack, reply[0])))),
         Stage::WholeOff(s) => whole_turn(m, flipping::step(s, ack, reply[0])),
         Stage::WholeStatus => Turn::Open(m, Stage::WholeRead),
         Stage::WholeRead => whole_read_turn(m, ack, out),

@@ -4,23 +4,24 @@ use mathlib.Core.Bool.{Bool, true, false}
 use mathlib.Core.List.{List}
 use Prim.Native.Nat.{ℕ}
 use lib.Dec.{eqb}
+use Rattle.std.specs.Prelude.{Ok, Err, Some, None}
 use Rattle.slices.specs.Pick.{pick}
+use Rattle.protocol.specs.Answer.{Progress}
 use Rattle.protocol.specs.Proc.{Proc, done, ask, Res, ok, try, fine, refuse}
 use Rattle.protocol.specs.declared.answer.TagError.TheVariants.{NoAnswer, NotTaken}
 use Rattle.machine.specs.Ask.{meant, first}
 use Rattle.machine.specs.Wait.{wait_ask, wait_step, after_wait}
-use Rattle.machine.specs.declared.wait.Waited.{Waited}
-use Rattle.machine.specs.declared.wait.Waited.TheVariants as W
+use Rattle.machine.specs.declared.wait.Wait as wait
 use Rattle.machine.proofs.Waits.{wait_bridge}
 use Rattle.storing.specs.Store.{store_ask, store_sent, store_waited, store_looked, store_step, store_look, resume_store, after_store}
 use Rattle.storing.specs.declared.Store.{Store}
 use Rattle.storing.specs.declared.Store.TheVariants as S
 
 -- the wait, nested in what follows it
-store_waited_lem : (at value : ℕ) (x : Waited) → try (after_wait x) (λ _. store_look at value) ≡ after_store at value (store_waited x)
-store_waited_lem at value (W.More w) = refl
-store_waited_lem at value W.Ready = refl
-store_waited_lem at value W.Busy = refl
+store_waited_lem : (at value : ℕ) (x : Progress wait.Wait) → try (after_wait x) (λ _. store_look at value) ≡ after_store at value (store_waited x)
+store_waited_lem at value (Ok (Some w)) = refl
+store_waited_lem at value (Ok None) = refl
+store_waited_lem at value (Err e) = refl
 
 -- a byte was sent or not; it was read back or not, and is as it should be or not
 sent_case : (at value : ℕ) (b : Bool) → try (pick b fine (refuse NoAnswer)) (λ _. resume_store at value S.Pause) ≡ after_store at value (store_sent b)

@@ -4,9 +4,10 @@
 ghost use Rattle.std.specs.Prelude.{◌≡◌};
 ghost use Rattle.storing.specs.Store.{store_ask, store_sent, store_waited, store_looked, store_step};
 
+use machine::ack::acked;
 use machine::ask::Ask;
-use machine::wait::{Wait, Waited};
-use protocol::answer::TagError;
+use machine::wait::Wait;
+use protocol::answer::{Progress, TagError};
 
 #[derive(Clone, Copy)]
 pub enum Store {
@@ -16,44 +17,27 @@ pub enum Store {
     Look,
 }
 
-#[derive(Clone, Copy)]
-pub enum Stored {
-    More(Store),
-    Done,
-    Not(TagError),
-}
-
-fn sent(ack: bool) -> Stored
+fn sent(ack: bool) -> Progress<Store>
     ensures { result ≡ store_sent ack }
 {
-    if ack {
-        Stored::More(Store::Pause)
-    } else {
-        Stored::Not(TagError::NoAnswer)
-    }
+    acked(ack)?;
+    Ok(Some(Store::Pause))
 }
 
-fn waited(w: Waited) -> Stored
+fn waited(w: Progress<Wait>) -> Progress<Store>
     ensures { result ≡ store_waited w }
 {
-    match w {
-        Waited::More(n) => Stored::More(Store::Wait(n)),
-        Waited::Ready => Stored::More(Store::Look),
-        Waited::Busy => Stored::Not(TagError::Busy),
-    }
+    Ok(Some(w?.map_or(Store::Look, Store::Wait)))
 }
 
-fn looked(value: u8, ack: bool, v: u8) -> Stored
+fn looked(value: u8, ack: bool, v: u8) -> Progress<Store>
     ensures { result ≡ store_looked value ack v }
 {
-    if ack {
-        if v == value {
-            Stored::Done
-        } else {
-            Stored::Not(TagError::NotTaken)
-        }
+    acked(ack)?;
+    if v == value {
+        Ok(None)
     } else {
-        Stored::Not(TagError::NoAnswer)
+        Err(TagError::NotTaken)
     }
 }
 
@@ -69,12 +53,12 @@ impl Store {
         }
     }
 
-    pub fn step(self, value: u8, ack: bool, v: u8) -> Stored
+    pub fn step(self, value: u8, ack: bool, v: u8) -> Progress<Store>
         ensures { result ≡ store_step value self ack v }
     {
         match self {
             Store::Send => sent(ack),
-            Store::Pause => Stored::More(Store::Wait(Wait::new())),
+            Store::Pause => Ok(Some(Store::Wait(Wait::new()))),
             Store::Wait(w) => waited(w.step(ack)),
             Store::Look => looked(value, ack, v),
         }

@@ -15,24 +15,23 @@ use framing::{frame, write_frame};
 use machine::ask::Ask;
 use scan::all_zero;
 use session::session::Session;
-use slices::{copy_to, wide};
+use slices::copy_to;
 use sound::chunk_stop;
 use state::bytes::flat_of;
 use telling::step::ask_step;
 use wipe::scrub::Chunk;
-use wiping::sweep::Swept;
 
 // A chunk that is blank and has a whole one after it. That it has is tested first, so that the compiler leaves out the test of the chunk's
 // own end. 64 is a length that the compiler knows, so that the chunk is tested at once.
-fn passed(m: usize, rows: usize, p: Chunk, reply: &[u8]) -> Swept
+fn passed(m: usize, rows: usize, p: Chunk, reply: &[u8]) -> Option<Chunk>
     requires { (m ≤ 8192) × (64 ≤ length reply.now) × (p.at < 65536) }
     ensures { Passes m rows p reply.now result }
 {
     let next = p.at + 64;
     if next + 64 <= p.end {
         if (0 < chunk_stop(m, p)) & (rows <= p.at / 16) {
-            if all_zero(reply, 0, 64) {
-                return Swept::To(Chunk {
+            if all_zero(&reply[..64]) {
+                return Some(Chunk {
                     left: p.left - 1,
                     at: next,
                     end: p.end,
@@ -40,7 +39,7 @@ fn passed(m: usize, rows: usize, p: Chunk, reply: &[u8]) -> Swept
             }
         }
     }
-    Swept::Not
+    None
 }
 
 // Four bytes as one number, low byte first, which the compiler loads at once.
@@ -48,14 +47,14 @@ fn four(b: &[u8], at: usize) -> usize
     requires { at + 3 < length b.now }
     ensures { (result ≡ two_at b.now at + 65536 * two_at b.now (at + 2)) × (result < 4294967296) }
 {
-    let low = wide(b[at]) + 256 * wide(b[at + 1]);
-    let high = wide(b[at + 2]) + 256 * wide(b[at + 3]);
+    let low = usize::from(b[at]) + 256 * usize::from(b[at + 1]);
+    let high = usize::from(b[at + 2]) + 256 * usize::from(b[at + 3]);
     low + 65536 * high
 }
 
 // The chunk after the one that a wipe has read, where that is clean. The first eight bytes of such a wipe are tested as one number: its tags are
 // 12, or 18 with RF off or stuck; 1 for the read; and 0 as all else. So are rows and data.
-pub fn clean_of(state: &[u8], reply: &[u8]) -> Swept
+pub fn clean_of(state: &[u8], reply: &[u8]) -> Option<Chunk>
     requires { (length state.now ≡ 20) × (64 ≤ length reply.now) }
     ensures { Clean state.now reply.now result }
 {
@@ -70,7 +69,7 @@ pub fn clean_of(state: &[u8], reply: &[u8]) -> Swept
         };
         return passed(f.mark, f.rows + 65536 * f.lent, read, reply);
     }
-    Swept::Not
+    None
 }
 
 // The next state and transfer, and the step: the chunk p is read, which is whole, so that the step is the same for all. One chunk fewer is left

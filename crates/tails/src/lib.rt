@@ -13,7 +13,7 @@ pub fn inside(b: u8, lo: u8, hi: u8) -> bool
     (lo <= b) & (b <= hi)
 }
 
-// `n` where the test holds, else 0.
+// `n` where the test holds, else 0: no Option, since the definition `first_len` gives 0 where no row fits.
 pub fn when(ok: bool, n: usize) -> usize
     ensures { result ≡ pick ok n 0 }
 {
@@ -33,10 +33,8 @@ pub fn rest(s: &[u8], i: usize, n: usize, lo: u8, hi: u8) -> usize
         return 0;
     }
     let mut ok = inside(s[i + 1], lo, hi);
-    let mut k = 2;
-    while k < n {
+    for k in 2..n {
         ok = ok & inside(s[i + k], 0x80, 0xBF);
-        k += 1;
     }
     when(ok, n)
 }

@@ -12,19 +12,12 @@ use part::registers::Registers;
 pub fn may_hold(at: usize, v: u8) -> bool
     ensures { result ≡ fits at v }
 {
-    if at == 0 {
-        return true;
+    match at {
+        0 => true,
+        3 => v < 4,
+        14 => (v == 0x1A) | (v == 0x3A),
+        _ => false,
     }
-    if at == 3 {
-        return v < 4;
-    }
-    if at == 14 {
-        if v == 0x1A {
-            return true;
-        }
-        return v == 0x3A;
-    }
-    false
 }
 
 // Whether a part with these registers, and no cycle running, takes the order with n bytes of data.

@@ -3,8 +3,7 @@
 --
 --   StageFits n st  == st can ask (`Able`), and what it asks for fits (`AskFits`), with n bytes of data, no more than the part has
 --   TurnFits n t    == the same where the call goes on
---   StartFits o s t r n turn == a call that may be started: the lengths of its state and buffers, and its first turn
-use Rattle.std.specs.Prelude.{ℕ, ◌≤◌, ◌≡◌}
+use Rattle.std.specs.Prelude.{ℕ, ◌≤◌}
 use Rattle.protocol.specs.Tag.{user_memory}
 use Rattle.stages.specs.Turns.{stage_ask}
 use Rattle.stages.specs.Able.{Able}
@@ -12,8 +11,6 @@ use Rattle.stages.specs.declared.stage.Stage.{Stage}
 use Rattle.stages.specs.declared.stage.Turn.{Turn}
 use Rattle.stages.specs.declared.stage.Turn.TheVariants.{Open, Over}
 use Rattle.telling.specs.Step.{AskFits}
-use Rattle.telling.specs.declared.opening.Opened.{Opened}
-use Rattle.telling.specs.declared.opening.Opened.TheVariants as O
 
 unfoldable pub StageFits : ℕ → Stage → Type 0
 StageFits n st = Able n user_memory st × AskFits n (stage_ask n st) × (n ≤ user_memory)
@@ -21,7 +18,3 @@ StageFits n st = Able n user_memory st × AskFits n (stage_ask n st) × (n ≤ u
 unfoldable pub TurnFits : ℕ → Turn → Type 0
 TurnFits n (Open m st) = StageFits n st
 TurnFits n (Over m a) = Unit
-
-abbrev pub StartFits : Opened → ℕ → ℕ → ℕ → ℕ → Turn → Type 0
-StartFits (O.At m) s t r n turn = (s ≡ 20) × (19 ≤ t) × (64 ≤ r) × TurnFits n turn
-StartFits (O.Not k) s t r n turn = Unit

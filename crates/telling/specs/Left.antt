@@ -2,6 +2,7 @@
 --
 --   Left                        == the step that is returned, and the state, transfer and reply buffers afterwards
 --   Leaves l given s t r        == an entry point returned the step `given` and left s, t and r: all as l says
+--   misuse_number e              == the number of a refusal: 31 to 34
 --   refused_left n s t r         == a refusal 31 to 34: everything untouched, no rows
 --   settled lent rows turn t r  == a call that goes on, or answers, with `rows` rows programmed and the data `lent`: before the answer
 --                                  the bytes to send stand in the transfer buffer, zeros after them up to 19; at the answer the first 19
@@ -22,7 +23,7 @@
 --   started_left, replied_left, repeated_left == the same three, on what was found open or heard
 --   new_state s n, new_step s     == a session made in s: 34 for a wrong length alone
 --   dirty_step s                 == the mark of the session in s, or 34. dirty_decoded: the same, on what was decoded
-use Rattle.std.specs.Prelude.{◌≡◌, ℕ, ◌+◌, Bool, true, false, not, ◌||◌, List, ◌++◌, eqb, ltb, length, drop, replicate}
+use Rattle.std.specs.Prelude.{◌≡◌, ℕ, ◌+◌, Bool, true, false, not, ◌||◌, List, ◌++◌, eqb, ltb, length, drop, replicate, Option, Some, None, Result, Ok, Err}
 use Rattle.slices.specs.Pick.{pick}
 use Rattle.protocol.specs.Transfer.{Transfer, sent}
 use Rattle.protocol.specs.Mark.{Mark}
@@ -38,16 +39,11 @@ use Rattle.stages.specs.declared.stage.Stage.TheVariants as G
 use Rattle.stages.specs.declared.stage.Turn.{Turn}
 use Rattle.stages.specs.declared.stage.Turn.TheVariants.{Open, Over}
 use Rattle.session.specs.Steps.{idle, entered, counted, out_of}
-use Rattle.session.specs.declared.session.Now.{Now}
-use Rattle.session.specs.declared.session.Now.TheVariants as N
 use Rattle.session.specs.declared.session.Session.{Session}
 use Rattle.state.specs.Bytes.{state_length, encode, decode_of}
-use Rattle.state.specs.declared.decode.Decoded.{Decoded}
-use Rattle.state.specs.declared.decode.Decoded.TheVariants.{State, Nothing}
-use Rattle.telling.specs.declared.opening.Opened.{Opened}
-use Rattle.telling.specs.declared.opening.Opened.TheVariants as O
+use Rattle.telling.specs.declared.opening.Misuse.{Misuse}
+use Rattle.telling.specs.declared.opening.Misuse.TheVariants as M
 use Rattle.telling.specs.declared.opening.Heard.{Heard}
-use Rattle.telling.specs.declared.opening.Heard.TheVariants as H
 use Rattle.telling.specs.Step.{transfer_length, reply_length, answer_step, transfer_step, padded}
 
 pub record Left : Type 0 where
@@ -61,6 +57,12 @@ pub record Leaves (l : Left) (given : ℕ) (s t r : List ℕ) : Type 0 where
   pub state : s ≡ l.state
   pub transfer : t ≡ l.transfer
   pub reply : r ≡ l.reply
+
+abbrev pub misuse_number : Misuse → ℕ
+misuse_number M.NoCallOpen = 31
+misuse_number M.CallOpen = 32
+misuse_number M.WrongLength = 33
+misuse_number M.NoState = 34
 
 abbrev pub refused_left : ℕ → List ℕ → List ℕ → List ℕ → Left
 refused_left n s t r = record { step = answer_step n 0 0; state = s; transfer = t; reply = r }
@@ -109,24 +111,24 @@ abbrev pub short : ℕ → ℕ → Bool
 short t r = ltb t transfer_length || ltb r reply_length
 
 -- a call may be started with the mark at m, or the refusal's number
-abbrev pub opened_now : Mark → Now → ℕ → ℕ → Opened
-opened_now m (N.Open st) t r = O.Not 32
-opened_now m N.Idle t r = pick (short t r) (O.Not 33) (O.At m)
+abbrev pub opened_now : Mark → Option Stage → ℕ → ℕ → Result Mark Misuse
+opened_now m (Some st) t r = Err M.CallOpen
+opened_now m None t r = pick (short t r) (Err M.WrongLength) (Ok m)
 
-abbrev pub opened_by : Decoded → ℕ → ℕ → Opened
-opened_by Nothing t r = O.Not 34
-opened_by (State q) t r = opened_now q.mark q.now t r
+abbrev pub opened_by : Option Session → ℕ → ℕ → Result Mark Misuse
+opened_by None t r = Err M.NoState
+opened_by (Some q) t r = opened_now q.mark q.now t r
 
-abbrev pub opened_of : List ℕ → ℕ → ℕ → Opened
+abbrev pub opened_of : List ℕ → ℕ → ℕ → Result Mark Misuse
 opened_of s t r = opened_by (decode_of s) t r
 
-abbrev pub mark_of : Opened → Mark
-mark_of (O.At m) = m
-mark_of (O.Not n) = none
+abbrev pub mark_of : Result Mark Misuse → Mark
+mark_of (Ok m) = m
+mark_of (Err e) = none
 
-abbrev pub started_left : Opened → List ℕ → Turn → List ℕ → List ℕ → List ℕ → Left
-started_left (O.At m) lent turn s t r = settled lent 0 turn t r
-started_left (O.Not n) lent turn s t r = refused_left n s t r
+abbrev pub started_left : Result Mark Misuse → List ℕ → Turn → List ℕ → List ℕ → List ℕ → Left
+started_left (Ok m) lent turn s t r = settled lent 0 turn t r
+started_left (Err e) lent turn s t r = refused_left (misuse_number e) s t r
 
 abbrev pub start_left : Call → List ℕ → List ℕ → List ℕ → Left
 start_left c s t r =
@@ -137,29 +139,30 @@ abbrev pub misfit : Session → Stage → ℕ → ℕ → ℕ → ℕ → Bool
 misfit q st t r lent out = short t r || not (eqb lent q.lent) || not (eqb out (out_of st))
 
 -- a reply may be taken: the mark, the rows and the stage; or the refusal's number
-abbrev pub heard_now : Session → Now → ℕ → ℕ → ℕ → ℕ → Heard
-heard_now q N.Idle t r lent out = H.Not 31
-heard_now q (N.Open st) t r lent out = pick (misfit q st t r lent out) (H.Not 33) (H.Goes q.mark q.rows st)
+abbrev pub heard_now : Session → Option Stage → ℕ → ℕ → ℕ → ℕ → Result Heard Misuse
+heard_now q None t r lent out = Err M.NoCallOpen
+heard_now q (Some st) t r lent out =
+    pick (misfit q st t r lent out) (Err M.WrongLength) (Ok (record { mark = q.mark; rows = q.rows; stage = st }))
 
-abbrev pub heard_by : Decoded → ℕ → ℕ → ℕ → ℕ → Heard
-heard_by Nothing t r lent out = H.Not 34
-heard_by (State q) t r lent out = heard_now q q.now t r lent out
+abbrev pub heard_by : Option Session → ℕ → ℕ → ℕ → ℕ → Result Heard Misuse
+heard_by None t r lent out = Err M.NoState
+heard_by (Some q) t r lent out = heard_now q q.now t r lent out
 
-abbrev pub heard_of : List ℕ → List ℕ → List ℕ → List ℕ → List ℕ → Heard
+abbrev pub heard_of : List ℕ → List ℕ → List ℕ → List ℕ → List ℕ → Result Heard Misuse
 heard_of s t r lent out = heard_by (decode_of s) (length t) (length r) (length lent) (length out)
 
-abbrev pub replied_left : Heard → List ℕ → List ℕ → List ℕ → List ℕ → List ℕ → Bool → Left
-replied_left (H.Not n) s t r lent out ack = refused_left n s t r
-replied_left (H.Goes m rows st) s t r lent out ack =
-    settled lent (rows + counted (stage_ask (length lent) st) ack) (stage_step lent m st ack (got_by st r out)) t r
+abbrev pub replied_left : Result Heard Misuse → List ℕ → List ℕ → List ℕ → List ℕ → List ℕ → Bool → Left
+replied_left (Err e) s t r lent out ack = refused_left (misuse_number e) s t r
+replied_left (Ok h) s t r lent out ack =
+    settled lent (h.rows + counted (stage_ask (length lent) h.stage) ack) (stage_step lent h.mark h.stage ack (got_by h.stage r out)) t r
 
 abbrev pub reply_left : List ℕ → List ℕ → List ℕ → List ℕ → List ℕ → ℕ → Left
 reply_left s t r lent out ack = replied_left (heard_of s t r lent out) s t r lent out (not (eqb ack 0))
 
-abbrev pub repeated_left : Heard → List ℕ → List ℕ → List ℕ → List ℕ → Left
-repeated_left (H.Not n) s t r lent = refused_left n s t r
-repeated_left (H.Goes m rows st) s t r lent =
-    record { step = transfer_step (into_out st) (waits_on lent st); state = s; transfer = framed lent st t; reply = r }
+abbrev pub repeated_left : Result Heard Misuse → List ℕ → List ℕ → List ℕ → List ℕ → Left
+repeated_left (Err e) s t r lent = refused_left (misuse_number e) s t r
+repeated_left (Ok h) s t r lent =
+    record { step = transfer_step (into_out h.stage) (waits_on lent h.stage); state = s; transfer = framed lent h.stage t; reply = r }
 
 abbrev pub next_left : List ℕ → List ℕ → List ℕ → List ℕ → List ℕ → Left
 next_left s t r lent out = repeated_left (heard_of s t r lent out) s t r lent
@@ -170,9 +173,9 @@ new_state s n = pick (eqb (length s) state_length) (encode (idle (mark.given n))
 abbrev pub new_step : List ℕ → ℕ
 new_step s = pick (eqb (length s) state_length) (answer_step 0 0 0) (answer_step 34 0 0)
 
-abbrev pub dirty_decoded : Decoded → ℕ
-dirty_decoded Nothing = answer_step 34 0 0
-dirty_decoded (State q) = answer_step 0 0 q.mark
+abbrev pub dirty_decoded : Option Session → ℕ
+dirty_decoded None = answer_step 34 0 0
+dirty_decoded (Some q) = answer_step 0 0 q.mark
 
 abbrev pub dirty_step : List ℕ → ℕ
 dirty_step s = dirty_decoded (decode_of s)

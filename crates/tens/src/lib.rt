@@ -9,13 +9,11 @@ use part::registers::{Cycle, Registers};
 fn cycle_of(kind: usize, at: usize, n: usize) -> Cycle
     ensures { result ≡ cycle_of kind at n }
 {
-    if kind == 1 {
-        return Cycle::Row(at, n);
+    match kind {
+        1 => Cycle::Row(at, n),
+        2 => Cycle::Byte(at, (n % 256) as u8),
+        _ => Cycle::Nothing,
     }
-    if kind == 2 {
-        return Cycle::Byte(at, (n % 256) as u8);
-    }
-    Cycle::Nothing
 }
 
 // The registers that ten numbers are.

@@ -11,16 +11,14 @@ use characters::first_len;
 use narrow::past_narrow;
 use tails::{inside, rest};
 
-// The `n` bytes from `i` are all ASCII. With a constant `n` this is a load of n bytes and one test.
+// The `n` bytes from `i` are all ASCII. It is no twin of `scan::all_zero`: what is promised is that characters end here. With a constant `n` this is a load of n bytes and one test.
 fn all_ascii(s: &[u8], i: usize, n: usize) -> bool
     requires { i + n ≤ length s.now }
     ensures { result ≡ true → Skips s.now i (i + n) }
 {
     let mut ok = true;
-    let mut k = 0;
-    while k < n {
+    for k in 0..n {
         ok = ok & (s[i + k] < 128);
-        k += 1;
     }
     ok
 }
@@ -40,7 +38,7 @@ fn is_piece(s: &[u8], i: usize, n: usize) -> bool
     all_ascii(s, i, n)
 }
 
-// Past the frequent pieces of `n` bytes from `from` on.
+// Past the frequent pieces of `n` bytes from `from` on. The place where they end is what is asked for, so it is no chunk's number.
 fn past_pieces(s: &[u8], from: usize, n: usize) -> usize
     requires from_in_bounds { from ≤ length s.now }
     requires n_nonzero { 0 < n }
@@ -88,7 +86,7 @@ fn past_like(s: &[u8], i: usize, n: usize) -> usize
     i
 }
 
-// The bytes are well-formed UTF-8: each character fits a row of the table, and the last is whole.
+// The bytes are well-formed UTF-8: each character fits a row of the table, and the last is whole. The place goes on by as much as was passed.
 pub fn is_utf8(s: &[u8]) -> bool
     ensures { result ≡ utf8 s.now }
 {

@@ -5,22 +5,19 @@ ghost use Rattle.std.specs.Prelude.{◌≡◌, ◌++◌, ◌<◌, ◌^◌, lengt
 ghost use Rattle.judging.specs.Judge.{verdict, checks, encoding};
 
 use judging::judge;
-use layout::refusal::{Refusal, Verdict};
+use layout::refusal::Refusal;
 use texts::is_utf8;
 
 // Refusals 2 to 5, in their order, for a record with a type name of one byte whose payload is `head` and then `text`, which must be UTF-8.
-pub fn judge_text(room: usize, area: usize, head: &[u8], text: &[u8]) -> Verdict
+#[tactic(auto, using(judging::proofs::Judged::text_refused, judging::proofs::Judged::text_judged))]
+pub fn judge_text(room: usize, area: usize, head: &[u8], text: &[u8]) -> Result<(), Refusal>
     requires { room < 2 ^ 63 }
     ensures { result ≡ verdict (checks room area 1 (length (head.now ++ text.now)) ++ encoding text.now) }
 {
-    match judge(room, area, 1, head.len() + text.len()) {
-        Verdict::Not(why) => Verdict::Not(why),
-        Verdict::Fits => {
-            if is_utf8(text) {
-                Verdict::Fits
-            } else {
-                Verdict::Not(Refusal::NotUtf8)
-            }
-        }
+    judge(room, area, 1, head.len() + text.len())?;
+    if is_utf8(text) {
+        Ok(())
+    } else {
+        Err(Refusal::NotUtf8)
     }
 }

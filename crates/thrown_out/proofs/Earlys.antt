@@ -9,6 +9,7 @@ use Prim.Native.Nat.{ℕ, zero, suc, ◌+◌, ◌-◌, ◌*◌, ◌≤◌, ◌<�
 use native.Mathlib.Omega.{arith}
 use lib.ListN.{length, get_or, take, drop, replicate, length-replicate, get_or-replicate}
 use lib.Seq.{ext_get_or}
+use Rattle.std.specs.Prelude.{Result}
 use Rattle.slices.specs.Bytes.{splice}
 use Rattle.protocol.specs.Mark.{none, whole, is_none, wipe_end}
 use Rattle.protocol.specs.Transfer.{Transfer, write_read, Reply, place}
@@ -19,6 +20,7 @@ use Rattle.protocol.specs.Write.{chunks}
 use Rattle.protocol.specs.Scrub.{dirty_rows, some, program_rows, reread, scrub_chunk, scrub_to, scrub}
 use Rattle.protocol.specs.Calls.{plain}
 use Rattle.protocol.specs.declared.answer.TagError.TheVariants.{NoAnswer}
+use Rattle.protocol.specs.declared.answer.TagError.{TagError}
 use Rattle.protocol.specs.declared.answer.Answer.{Answer}
 use Rattle.part.specs.Part.{Part}
 use Rattle.part.specs.Bus.{reply_of, after_of}
@@ -87,7 +89,7 @@ chunk_read : {A : Type 0} (k : Reply → Proc A) (at c : ℕ) (b : Bool) (M : Li
 chunk_read k at c b M w l = rw (memory-look at 64 l)
 
 -- and where it is zero, the wipe goes on to the next
-module _ (f g : Res Unit → Proc (Res Unit)) (h : Res Unit → Proc Answer) where
+module _ (f g : Res Unit → Proc (Res Unit)) (h : Res Unit → Proc (Result Answer TagError)) where
   past-chunk : (left at end : ℕ) (b : Bool) (M : List ℕ) (p : Part) (w : Moments) → visited (w 0).phone p ≡ held 0x85 0 b 0 Nothing M
       → at + 64 ≤ end → end ≤ 8192 → length M ≡ 8192 → ((i : ℕ) → at ≤ i → i < 8192 → get_or M i 0 ≡ 0)
       → part_of (scrub_to (suc left) at end >>= f >>= g >>= h) p w
@@ -103,7 +105,7 @@ module _ (f g : Res Unit → Proc (Res Unit)) (h : Res Unit → Proc Answer) whe
       scrubbed : List ℕ → Proc (Res Unit)
       scrubbed x = try (program_rows at (dirty_rows 4 x)) (λ _. when some (dirty_rows 4 x) then reread at 64 else fine)
 
-      answered : Reply → Proc Answer
+      answered : Reply → Proc (Result Answer TagError)
       answered r =
           try (try (when r.ack then done (ok (take 64 r.got)) else refuse NoAnswer) scrubbed) (λ _. scrub_to left (at + 64) end) >>= f >>= g >>= h
 
@@ -128,7 +130,7 @@ module _ (f g : Res Unit → Proc (Res Unit)) (h : Res Unit → Proc Answer) whe
       ∙ passes left 1 end (omega arith) l
 
 -- the wipe of the whole part
-module _ (g : Res Unit → Proc (Res Unit)) (h : Res Unit → Proc Answer) where
+module _ (g : Res Unit → Proc (Res Unit)) (h : Res Unit → Proc (Result Answer TagError)) where
   scrub-passed : part_of (scrub whole >>= g >>= h) start (late 1) ≡ part_of (g (ok tt) >>= h) touched eager
   unfolding scrub
   scrub-passed =

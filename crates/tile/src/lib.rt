@@ -5,7 +5,7 @@
 ghost use Rattle.std.specs.Prelude.{◌≡◌, ◌-◌, length};
 ghost use Rattle.part.specs.Part.{with_busy};
 ghost use Rattle.simulated.specs.Simulated.{wrote, memory_wrote, did_read, out_read, phoned, memory_phoned, powered_up, memory_left};
-ghost use Rattle.tens.specs.Tens.{flag, number_of, registers_of, tile_of};
+ghost use Rattle.tens.specs.Tens.{flag, registers_of, tile_of};
 ghost use Rattle.tile.specs.Acked.{acked};
 
 use numbered::tile_of;
@@ -14,12 +14,6 @@ use tens::registers_of;
 // GPO1, RF_MNGT, I2C_CFG, RF_MNGT_Dyn; session open, write reported; milliseconds left of the cycle; its kind, place, and size or old
 // byte.
 pub type Tile = [usize; 10];
-
-fn ack_of(b: bool) -> u32
-    ensures { result ≡ number_of b }
-{
-    if b { 1 } else { 0 }
-}
 
 // A write of the bytes `sent` to the address `dev`, whose cycle takes `ms` milliseconds, 99 at most: 1 acknowledged, 0 refused.
 pub fn skp_tile_write(tile: &mut Tile, memory: &mut [u8], dev: u8, sent: &[u8], ms: u8) -> u32
@@ -30,7 +24,7 @@ pub fn skp_tile_write(tile: &mut Tile, memory: &mut [u8], dev: u8, sent: &[u8], 
     let t = simulated::write(registers_of(tile), memory, dev, sent, ms);
     let r = t.registers;
     *tile = tile_of(r);
-    ack_of(t.ack)
+    t.ack as u32
 }
 
 // A read from the address `dev`, after `head`, of as many bytes as `out` has: 1 acknowledged, 0 refused.
@@ -49,7 +43,7 @@ pub fn skp_tile_read(
     let t = shows::read(registers_of(tile), identity, memory, dev, head, out);
     let r = t.registers;
     *tile = tile_of(r);
-    ack_of(t.ack)
+    t.ack as u32
 }
 
 // Nothing passes for `ms` milliseconds.

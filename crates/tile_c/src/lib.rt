@@ -1,4 +1,5 @@
-// The simulated part for C: each export is the function of `tile` that has its name, with the same clauses.
+// The simulated part for C: each export is the function of `tile` that has its name, with the same clauses. Both stand because a static library
+// exports and no crate can use it.
 #![tactic(auto)]
 
 ghost use Rattle.std.specs.Prelude.{◌≡◌, ◌-◌, length};

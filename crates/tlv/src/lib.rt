@@ -4,71 +4,81 @@
 ghost use Rattle.std.specs.Prelude.{◌≡◌, ◌≤◌, ◌<◌, length};
 ghost use Rattle.tlv.specs.Blocks.{tlv_length, block_of, body_of};
 
-use slices::wide;
+// A part of an image: its place and its length.
+#[derive(Clone, Copy)]
+pub struct Span {
+    pub at: usize,
+    pub len: usize,
+}
 
 // A block's length: the number, and how many bytes it takes itself.
 #[derive(Clone, Copy)]
-pub enum Length {
-    Of(usize, usize),
-    // 13: it is not all there.
-    Missing,
+pub struct Length {
+    pub len: usize,
+    pub size: usize,
 }
 
-// What stands at the front of the blocks: bytes to step over, the message with its place and length, the end, a length that fails.
+// What stands at the front of the blocks: bytes to step over, the message with its place and length, the end.
 #[derive(Clone, Copy)]
 pub enum Block {
     Over(usize),
-    Body(usize, usize),
+    Body(Span),
     Stop,
-    Cut,
 }
 
-// The length after a block's type: one byte, or FF and two more, high byte first.
-pub fn tlv_len(after_type: &[u8]) -> Length
+// The length after a block's type: one byte, or FF and two more, high byte first. None where it is not all there.
+#[tactic(auto, unfolding(crate::specs::Blocks::tlv_length))]
+pub fn tlv_len(after_type: &[u8]) -> Option<Length>
     ensures { result ≡ tlv_length after_type.now }
 {
     if after_type.len() == 0 {
-        return Length::Missing;
+        return None;
     }
     if after_type[0] == 0xFF {
         if after_type.len() < 3 {
-            return Length::Missing;
+            return None;
         }
-        return Length::Of(wide(after_type[1]) * 256 + wide(after_type[2]), 3);
+        return Some(Length {
+            len: usize::from(u16::from_be_bytes([after_type[1], after_type[2]])),
+            size: 3,
+        });
     }
-    Length::Of(wide(after_type[0]), 1)
+    Some(Length {
+        len: usize::from(after_type[0]),
+        size: 1,
+    })
 }
 
-// A block of type `t` whose `len` bytes begin at `from`.
-fn body(s: &[u8], t: u8, from: usize, len: usize) -> Block
+// A block of type `t` whose `len` bytes begin at `from`: None where they run past the bytes.
+#[tactic(auto, unfolding(crate::specs::Blocks::body_of))]
+fn body(s: &[u8], t: u8, from: usize, len: usize) -> Option<Block>
     requires { from ≤ length s.now }
     ensures { result ≡ body_of s.now t from len }
 {
     if s.len() - from < len {
-        return Block::Cut;
+        return None;
     }
     if t == 0x03 {
-        return Block::Body(from, len);
+        return Some(Block::Body(Span { at: from, len }));
     }
-    Block::Over(from + len)
+    Some(Block::Over(from + len))
 }
 
-// What stands at the front of the blocks.
-pub fn block_at(s: &[u8]) -> Block
+// What stands at the front of the blocks: None where a length is not all there, or runs past the bytes.
+#[tactic(auto, using(crate::proofs::Blocks::tlv_there), unfolding(crate::specs::Blocks::block_of))]
+pub fn block_at(s: &[u8]) -> Option<Block>
     ensures { result ≡ block_of s.now }
 {
     if s.len() == 0 {
-        return Block::Stop;
+        return Some(Block::Stop);
     }
     let t = s[0];
     if t == 0x00 {
-        return Block::Over(1);
+        return Some(Block::Over(1));
     }
     if t == 0xFE {
-        return Block::Stop;
+        return Some(Block::Stop);
     }
-    match tlv_len(&s[1..]) {
-        Length::Of(len, size) => body(s, t, 1 + size, len),
-        Length::Missing => Block::Cut,
-    }
+    let length = tlv_len(&s[1..])?;
+    body(s, t, 1 + length.size, length.len)
 }

@@ -4,7 +4,7 @@
 ghost use Rattle.std.specs.Prelude.{◌≡◌};
 ghost use Rattle.layout.specs.Lengths.{sat, image_len, uri_payload_len, text_payload_len};
 
-use lengths::{image_len_for, sat_add};
+use lengths::image_len_for;
 
 // A well-known record, whose type name is one byte.
 pub fn record_image_len(payload: usize) -> usize
@@ -24,12 +24,12 @@ pub fn mime_image_len(mime_len: usize, payload: usize) -> usize
 pub fn image_len(uri_len: usize) -> usize
     ensures { result ≡ sat (image_len 1 (uri_payload_len uri_len)) }
 {
-    record_image_len(sat_add(uri_len, 1))
+    record_image_len(uri_len.saturating_add(1))
 }
 
 // A text of `text_len` bytes, in English.
 pub fn text_image_len(text_len: usize) -> usize
     ensures { result ≡ sat (image_len 1 (text_payload_len text_len)) }
 {
-    record_image_len(sat_add(text_len, 3))
+    record_image_len(text_len.saturating_add(3))
 }

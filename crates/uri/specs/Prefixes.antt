@@ -4,13 +4,11 @@
 --
 --   ascii t           == the bytes of a text of ASCII characters
 --   prefixes          == the 36 prefixes, from code 0 ("no prefix") on
---   entry p           == the prefix p as the table keeps it: its length, and its bytes with zeros up to 26
---   prefix_answer code == what looking a code up answers: whether it is one of the 36, and its entry (empty where it is not)
-use Rattle.std.specs.Prelude.{List, [], ◌∷◌, ◌++◌, ℕ, zero, suc, ◌+◌, ◌-◌, length, get_or, ltb}
+--   prefix_answer code == what looking a code up answers: its prefix, where it is one of the 36
+use Rattle.std.specs.Prelude.{List, [], ◌∷◌, ℕ, zero, suc, ◌+◌, get_or, ltb, Option, Some, None}
 use Prim.Native.Char.{code}
 use Prim.Native.String.{String, len, char_at}
-use Rattle.uri.specs.declared.Prefix.{Prefix}
-use Rattle.uri.specs.declared.Found.{Found}
+use Rattle.slices.specs.Pick.{pick}
 
 -- n characters from place i on, as numbers
 unfoldable codes : ℕ → ℕ → String → List ℕ
@@ -61,13 +59,5 @@ prefixes =
     ascii "urn:nfc:" ∷
     []
 
-zeros : ℕ → List ℕ
-zeros zero = []
-zeros (suc n) = 0 ∷ zeros n
-
-unfoldable pub entry : List ℕ → Prefix
-unfolding zeros
-entry p = record { len = length p; bytes = p ++ zeros (26 - length p) }
-
-unfoldable pub prefix_answer : ℕ → Found
-prefix_answer c = record { known = ltb c 36; prefix = entry (get_or prefixes c []) }
+unfoldable pub prefix_answer : ℕ → Option (List ℕ)
+prefix_answer c = pick (ltb c 36) (Some (get_or prefixes c [])) None

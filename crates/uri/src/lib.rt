@@ -1,92 +1,53 @@
 // The URI prefixes that one byte stands for (NFC Forum URI Record Type Definition).
 #![tactic(auto)]
 
-ghost use Rattle.std.specs.Prelude.{◌≡◌};
+ghost use Rattle.std.specs.Prelude.{◌≡◌, ◌≤◌, length, IfSome, option_copied};
 ghost use Rattle.uri.specs.Prefixes.{prefix_answer};
 
-use slices::{copy_to, wide};
-
-// A prefix: its length, and its bytes with zeros after them. The longest has 26.
-#[derive(Clone, Copy)]
-pub struct Prefix {
-    pub len: usize,
-    pub bytes: [u8; 26],
-}
-
-// What looking a code up answers. The entry is empty where the code is not known.
-#[derive(Clone, Copy)]
-pub struct Found {
-    pub known: bool,
-    pub prefix: Prefix,
-}
-
-// How long each prefix is, by its code.
-const LENGTHS: [u8; 36] = *b"\
-    \x00\x0B\x0C\x07\x08\x04\x07\x1A\x0A\x07\x07\x06\x06\x06\x06\x05\x09\x05\
-    \x07\x04\x04\x04\x05\x05\x08\x0A\x09\x0A\x0B\x07\x0B\x0C\x0C\x0C\x08\x08";
-
-// The prefixes by their codes, each 26 bytes with zeros after it.
-const PREFIXES: [u8; 936] = *b"\
-    \0\0\0\0\0\0\0\0\0\0\0\0\0\0\0\0\0\0\0\0\0\0\0\0\0\0\
-    http://www.\0\0\0\0\0\0\0\0\0\0\0\0\0\0\0\
-    https://www.\0\0\0\0\0\0\0\0\0\0\0\0\0\0\
-    http://\0\0\0\0\0\0\0\0\0\0\0\0\0\0\0\0\0\0\0\
-    https://\0\0\0\0\0\0\0\0\0\0\0\0\0\0\0\0\0\0\
-    tel:\0\0\0\0\0\0\0\0\0\0\0\0\0\0\0\0\0\0\0\0\0\0\
-    mailto:\0\0\0\0\0\0\0\0\0\0\0\0\0\0\0\0\0\0\0\
-    ftp://anonymous:anonymous@\
-    ftp://ftp.\0\0\0\0\0\0\0\0\0\0\0\0\0\0\0\0\
-    ftps://\0\0\0\0\0\0\0\0\0\0\0\0\0\0\0\0\0\0\0\
-    sftp://\0\0\0\0\0\0\0\0\0\0\0\0\0\0\0\0\0\0\0\
-    smb://\0\0\0\0\0\0\0\0\0\0\0\0\0\0\0\0\0\0\0\0\
-    nfs://\0\0\0\0\0\0\0\0\0\0\0\0\0\0\0\0\0\0\0\0\
-    ftp://\0\0\0\0\0\0\0\0\0\0\0\0\0\0\0\0\0\0\0\0\
-    dav://\0\0\0\0\0\0\0\0\0\0\0\0\0\0\0\0\0\0\0\0\
-    news:\0\0\0\0\0\0\0\0\0\0\0\0\0\0\0\0\0\0\0\0\0\
-    telnet://\0\0\0\0\0\0\0\0\0\0\0\0\0\0\0\0\0\
-    imap:\0\0\0\0\0\0\0\0\0\0\0\0\0\0\0\0\0\0\0\0\0\
-    rtsp://\0\0\0\0\0\0\0\0\0\0\0\0\0\0\0\0\0\0\0\
-    urn:\0\0\0\0\0\0\0\0\0\0\0\0\0\0\0\0\0\0\0\0\0\0\
-    pop:\0\0\0\0\0\0\0\0\0\0\0\0\0\0\0\0\0\0\0\0\0\0\
-    sip:\0\0\0\0\0\0\0\0\0\0\0\0\0\0\0\0\0\0\0\0\0\0\
-    sips:\0\0\0\0\0\0\0\0\0\0\0\0\0\0\0\0\0\0\0\0\0\
-    tftp:\0\0\0\0\0\0\0\0\0\0\0\0\0\0\0\0\0\0\0\0\0\
-    btspp://\0\0\0\0\0\0\0\0\0\0\0\0\0\0\0\0\0\0\
-    btl2cap://\0\0\0\0\0\0\0\0\0\0\0\0\0\0\0\0\
-    btgoep://\0\0\0\0\0\0\0\0\0\0\0\0\0\0\0\0\0\
-    tcpobex://\0\0\0\0\0\0\0\0\0\0\0\0\0\0\0\0\
-    irdaobex://\0\0\0\0\0\0\0\0\0\0\0\0\0\0\0\
-    file://\0\0\0\0\0\0\0\0\0\0\0\0\0\0\0\0\0\0\0\
-    urn:epc:id:\0\0\0\0\0\0\0\0\0\0\0\0\0\0\0\
-    urn:epc:tag:\0\0\0\0\0\0\0\0\0\0\0\0\0\0\
-    urn:epc:pat:\0\0\0\0\0\0\0\0\0\0\0\0\0\0\
-    urn:epc:raw:\0\0\0\0\0\0\0\0\0\0\0\0\0\0\
-    urn:epc:\0\0\0\0\0\0\0\0\0\0\0\0\0\0\0\0\0\0\
-    urn:nfc:\0\0\0\0\0\0\0\0\0\0\0\0\0\0\0\0\0\0";
-
-// The prefix of a code: the 36 of the document, and nothing for 36 to 255.
-pub fn uri_prefix(code: u8) -> Found
-    ensures { result ≡ prefix_answer code }
+// The prefix of a code: the 36 of the document, and none for 36 to 255.
+#[tactic(auto, unfolding(crate::specs::Prefixes::prefix_answer, crate::specs::Prefixes::prefixes, crate::specs::Prefixes::ascii))]
+pub fn uri_prefix(code: u8) -> Option<&'static [u8]>
+    ensures value { option_copied result ≡ prefix_answer code }
+    ensures upper_bound { IfSome result (λ p. length p.now ≤ 26) }
 {
-    let at = code as usize;
-    if at < 36 {
-        let mut bytes = [0u8; 26];
-        let from = at * 26;
-        copy_to(&mut bytes, 0, &PREFIXES[from..from + 26]);
-        let len = wide(LENGTHS[at]);
-        return Found {
-            known: true,
-            prefix: Prefix {
-                len: len,
-                bytes: bytes,
-            },
-        };
-    }
-    Found {
-        known: false,
-        prefix: Prefix {
-            len: 0,
-            bytes: [0u8; 26],
-        },
-    }
+    let prefix: &'static [u8] = match code {
+        0 => b"",
+        1 => b"http://www.",
+        2 => b"https://www.",
+        3 => b"http://",
+        4 => b"https://",
+        5 => b"tel:",
+        6 => b"mailto:",
+        7 => b"ftp://anonymous:anonymous@",
+        8 => b"ftp://ftp.",
+        9 => b"ftps://",
+        10 => b"sftp://",
+        11 => b"smb://",
+        12 => b"nfs://",
+        13 => b"ftp://",
+        14 => b"dav://",
+        15 => b"news:",
+        16 => b"telnet://",
+        17 => b"imap:",
+        18 => b"rtsp://",
+        19 => b"urn:",
+        20 => b"pop:",
+        21 => b"sip:",
+        22 => b"sips:",
+        23 => b"tftp:",
+        24 => b"btspp://",
+        25 => b"btl2cap://",
+        26 => b"btgoep://",
+        27 => b"tcpobex://",
+        28 => b"irdaobex://",
+        29 => b"file://",
+        30 => b"urn:epc:id:",
+        31 => b"urn:epc:tag:",
+        32 => b"urn:epc:pat:",
+        33 => b"urn:epc:raw:",
+        34 => b"urn:epc:",
+        35 => b"urn:nfc:",
+        _ => return None,
+    };
+    Some(prefix)
 }

@@ -4,8 +4,9 @@
 ghost use Rattle.std.specs.Prelude.{◌≡◌};
 ghost use Rattle.walk.specs.Step.{start_of, number_of};
 
-use blocks::Message;
-use records::Record;
+use blocks::Unread;
+use records::{Malformed, Record};
+use tlv::Span;
 
 // Where the next record begins, and where the message ends.
 #[repr(C)]
@@ -15,16 +16,8 @@ pub struct Cursor {
     pub end: usize,
 }
 
-// What stands at a cursor.
-#[derive(Clone, Copy)]
-pub enum Entry {
-    Record(Record),
-    End,
-    // 13: a length or a part of the record is not all there.
-    Truncated,
-    // 14: a record split across several.
-    Chunked,
-}
+// What stands at a cursor: a record, nothing at the end, or why no record stands there.
+pub type Entry = Result<Option<Record>, Malformed>;
 
 // What a step finds, and where the next one begins.
 #[derive(Clone, Copy)]
@@ -38,33 +31,20 @@ pub fn number(e: Entry) -> u8
     ensures { result ≡ number_of e }
 {
     match e {
-        Entry::Record(_) => 0,
-        Entry::End => 0,
-        Entry::Truncated => 13,
-        Entry::Chunked => 14,
+        Ok(_) => 0,
+        Err(why) => why.into(),
     }
 }
 
 // The cursor at a message's first record; where there is no message, one that is at its end.
-pub fn start(m: Message) -> Cursor
+pub fn start(m: Result<Span, Unread>) -> Cursor
     ensures { result ≡ start_of m }
 {
     match m {
-        Message::At(place, len) => {
-            let room = 0xffff_ffff_ffff_ffff - place;
-            if len <= room {
-                return Cursor {
-                    at: place,
-                    end: place + len,
-                };
-            }
-            Cursor {
-                at: place,
-                end: 0xffff_ffff_ffff_ffff,
-            }
-        }
-        Message::NoContainer => Cursor { at: 0, end: 0 },
-        Message::NoMessage => Cursor { at: 0, end: 0 },
-        Message::Truncated => Cursor { at: 0, end: 0 },
+        Ok(Span { at, len }) => Cursor {
+            at,
+            end: at.saturating_add(len),
+        },
+        Err(_) => Cursor { at: 0, end: 0 },
     }
 }

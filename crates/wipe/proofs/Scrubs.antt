@@ -6,8 +6,10 @@ use Prim.Native.Nat.{ℕ, zero, suc, ◌+◌, ◌-◌}
 use native.Mathlib.Omega.{arith}
 use lib.ListN.{take, drop}
 use lib.Seq.{drop-drop}
+use Rattle.std.specs.Prelude.{Ok, Err, Some, None}
 use Rattle.slices.specs.Pick.{pick}
 use Rattle.scan.specs.Zeros.{blank}
+use Rattle.protocol.specs.Answer.{Progress}
 use Rattle.protocol.specs.Proc.{Proc, done, ask, Res, ok, try, fine, refuse}
 use Rattle.protocol.specs.Scrub.{dirty_rows, some, program_rows, reread, scrub_to, zero_row}
 use Rattle.protocol.specs.Write.{program_row}
@@ -15,23 +17,20 @@ use Rattle.protocol.specs.declared.answer.TagError.TheVariants.{NoAnswer, NotTak
 use Rattle.machine.specs.Ask.{meant}
 use Rattle.machine.specs.Wait.{wait_new, wait_ask, wait_step, resume_wait, after_wait}
 use Rattle.wipe.specs.Scrub.{size_of, chunk_from, next_chunk, next_row, after_read, read_step, reread_step, row_step, bits, waited_step, scrub_step, scrub_ask, onward, rows_then, resume_scrub, after_scrub}
-use Rattle.machine.specs.declared.wait.Waited.{Waited}
-use Rattle.machine.specs.declared.wait.Waited.TheVariants as W
+use Rattle.machine.specs.declared.wait.Wait as wait
 use Rattle.wipe.specs.declared.scrub.Chunk.{Chunk}
 use Rattle.wipe.specs.declared.scrub.Rows.{Rows}
 use Rattle.wipe.specs.declared.scrub.Scrub.{Scrub}
 use Rattle.wipe.specs.declared.scrub.Scrub.TheVariants.{Read, Row, Wait, Reread}
-use Rattle.wipe.specs.declared.scrub.Scrubbed.{Scrubbed}
-use Rattle.wipe.specs.declared.scrub.Scrubbed.TheVariants.{More, Not}
 use Rattle.machine.proofs.Waits.{wait_bridge}
 
 -- the code counts down by one
-pub chunk-from : (left at end : ℕ) → (left ≡ 0 → ⊥) → More (Read (record { left = left - 1; at = at; end = end })) ≡ chunk_from left at end
+pub chunk-from : (left at end : ℕ) → (left ≡ 0 → ⊥) → Ok (Some (Read (record { left = left - 1; at = at; end = end }))) ≡ chunk_from left at end
 chunk-from zero at end h = absurd (h refl)
-chunk-from (suc l) at end h = ap (λ (k : ℕ). More (Read (record { left = k; at = at; end = end }))) (omega arith)
+chunk-from (suc l) at end h = ap (λ (k : ℕ). Ok (Some (Read (record { left = k; at = at; end = end })))) (omega arith)
 
 -- the first row is clean, and one of the others is not, or none is
-pub some-found : (p : Chunk) (a b c d : Bool) → a ≡ false → b || c || d ≡ true → More (next_row p (p.at + 16) (b ∷ c ∷ d ∷ [])) ≡ after_read p (a ∷ b ∷ c ∷ d ∷ [])
+pub some-found : (p : Chunk) (a b c d : Bool) → a ≡ false → b || c || d ≡ true → Ok (Some (next_row p (p.at + 16) (b ∷ c ∷ d ∷ []))) ≡ after_read p (a ∷ b ∷ c ∷ d ∷ [])
 some-found p true b c d e f = absurd (let z : ◌≡◌ {A = ℕ} 0 1 = cc in omega arith)
 some-found p false true c d e f = refl
 some-found p false false true d e f = refl
@@ -51,7 +50,7 @@ four_rows : (x : List ℕ) (a b c d : Bool)
 four_rows x a b c d ea eb ec ed = rw (drop-drop 16 16 x, drop-drop 16 32 x) (rw (ea, eb, ec, ed))
 
 module _ (p : Chunk) (ack : Bool) (l : List ℕ) (n : ℕ) where
-  pub read_law : (a b c d : Bool) (r : Scrubbed) → ack ≡ true → n ≡ size_of p.at p.end
+  pub read_law : (a b c d : Bool) (r : Progress Scrub) → ack ≡ true → n ≡ size_of p.at p.end
       → a ≡ not (blank (take 16 (drop 0 (take n l)))) → b ≡ not (blank (take 16 (drop 16 (take n l))))
       → c ≡ not (blank (take 16 (drop 32 (take n l)))) → d ≡ not (blank (take 16 (drop 48 (take n l))))
       → r ≡ after_read p (a ∷ b ∷ c ∷ d ∷ []) → r ≡ read_step p ack l
@@ -61,7 +60,7 @@ module _ (p : Chunk) (ack : Bool) (l : List ℕ) (n : ℕ) where
   pub reread_clean : (t : Bool) → ack ≡ true → n ≡ size_of p.at p.end → t ≡ blank (take n l) → t ≡ true → next_chunk p ≡ reread_step p ack l
   reread_clean t e en et ht = rw (e, ← en, ← et, ht)
 
-  pub reread_dirty : (t : Bool) → ack ≡ true → n ≡ size_of p.at p.end → t ≡ blank (take n l) → t ≡ false → Not NotTaken ≡ reread_step p ack l
+  pub reread_dirty : (t : Bool) → ack ≡ true → n ≡ size_of p.at p.end → t ≡ blank (take n l) → t ≡ false → Err NotTaken ≡ reread_step p ack l
   reread_dirty t e en et ht = rw (e, ← en, ← et, ht)
 
 -- a row more that is not to be programmed changes nothing
@@ -104,11 +103,11 @@ row_case : (p : Chunk) (r : Rows) (b : Bool)
 row_case p r true = refl
 row_case p r false = refl
 
-waited_case : (p : Chunk) (r : Rows) (x : Waited)
+waited_case : (p : Chunk) (r : Rows) (x : Progress wait.Wait)
     → rows_then p (try (after_wait x) (λ _. program_rows (r.row + 16) (bits r))) ≡ after_scrub (waited_step p r x)
-waited_case p r (W.More w) = refl
-waited_case p r W.Ready = next_row_lem p (r.row + 16) r.x r.y r.z
-waited_case p r W.Busy = refl
+waited_case p r (Ok (Some w)) = refl
+waited_case p r (Ok None) = next_row_lem p (r.row + 16) r.x r.y r.z
+waited_case p r (Err e) = refl
 
 reread_case : (p : Chunk) (d b : Bool) (g : List ℕ) → d ≡ blank (take (size_of p.at p.end) g)
     → try (try (pick b (done (ok (take (size_of p.at p.end) g))) (refuse NoAnswer)) (λ l. pick (blank l) fine (refuse NotTaken))) (λ _. onward p)

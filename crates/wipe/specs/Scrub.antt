@@ -13,40 +13,37 @@
 --   onward p                 == the chunks after p, as a tree
 --   rows_then p m             == the rows m of the chunk p, then its second read and the chunks after it, as a tree
 --   resume_scrub s            == what remains of `scrub_to` from s. after_scrub: the same after a step
-use Rattle.std.specs.Prelude.{ℕ, zero, suc, ◌+◌, ◌-◌, ◌<◌, min, List, [], ◌∷◌, Bool, true, false, take}
+use Rattle.std.specs.Prelude.{ℕ, zero, suc, ◌+◌, ◌-◌, ◌<◌, min, List, [], ◌∷◌, Bool, true, false, take, Ok, Err, Some, None}
 use Rattle.slices.specs.Pick.{pick}
 use Rattle.scan.specs.Rows.{row}
 use Rattle.scan.specs.Zeros.{blank}
 use Rattle.protocol.specs.Tag.{user, chunk}
+use Rattle.protocol.specs.Answer.{Progress}
 use Rattle.protocol.specs.Proc.{Proc, Res, try, fine, refuse}
 use Rattle.protocol.specs.Write.{chunks}
 use Rattle.protocol.specs.Scrub.{dirty_rows, some, program_rows, reread, scrub_to}
 use Rattle.protocol.specs.declared.answer.TagError.TheVariants.{NoAnswer, NotTaken}
-use Rattle.protocol.specs.declared.answer.TagError.TheVariants as E
 use Rattle.machine.specs.Wait.{wait_new, wait_ask, wait_step, resume_wait}
 use Rattle.machine.specs.declared.ask.Ask.{Ask}
 use Rattle.machine.specs.declared.ask.Ask.TheVariants as A
-use Rattle.machine.specs.declared.wait.Waited.{Waited}
-use Rattle.machine.specs.declared.wait.Waited.TheVariants as W
+use Rattle.machine.specs.declared.wait.Wait as wait
 use Rattle.wipe.specs.declared.scrub.Chunk.{Chunk}
 use Rattle.wipe.specs.declared.scrub.Rows.{Rows}
 use Rattle.wipe.specs.declared.scrub.Scrub.{Scrub}
 use Rattle.wipe.specs.declared.scrub.Scrub.TheVariants.{Read, Row, Wait, Reread}
-use Rattle.wipe.specs.declared.scrub.Scrubbed.{Scrubbed}
-use Rattle.wipe.specs.declared.scrub.Scrubbed.TheVariants.{More, Done, Not}
 
 abbrev pub size_of : ℕ → ℕ → ℕ
 size_of at end = min chunk (end - at)
 
 -- the chunk at `at`, with the number left from it on
-abbrev pub chunk_from : ℕ → ℕ → ℕ → Scrubbed
-chunk_from zero at end = Done
-chunk_from (suc left) at end = More (Read (record { left = left; at = at; end = end }))
+abbrev pub chunk_from : ℕ → ℕ → ℕ → Progress Scrub
+chunk_from zero at end = Ok None
+chunk_from (suc left) at end = Ok (Some (Read (record { left = left; at = at; end = end })))
 
-abbrev pub scrub_new : ℕ → Scrubbed
+abbrev pub scrub_new : ℕ → Progress Scrub
 scrub_new end = chunk_from (chunks end) 0 end
 
-abbrev pub next_chunk : Chunk → Scrubbed
+abbrev pub next_chunk : Chunk → Progress Scrub
 next_chunk p = chunk_from p.left (p.at + chunk) p.end
 
 abbrev bit : List Bool → ℕ → Bool
@@ -59,28 +56,28 @@ next_row p at [] = Reread p
 next_row p at (true ∷ bits) = Row p (record { row = at; x = bit bits 0; y = bit bits 1; z = bit bits 2 })
 next_row p at (false ∷ bits) = next_row p (at + row) bits
 
-abbrev pub after_read : Chunk → List Bool → Scrubbed
-after_read p bits = pick (some bits) (More (next_row p p.at bits)) (next_chunk p)
+abbrev pub after_read : Chunk → List Bool → Progress Scrub
+after_read p bits = pick (some bits) (Ok (Some (next_row p p.at bits))) (next_chunk p)
 
-abbrev pub read_step : Chunk → Bool → List ℕ → Scrubbed
-read_step p ack got = pick ack (after_read p (dirty_rows 4 (take (size_of p.at p.end) got))) (Not NoAnswer)
+abbrev pub read_step : Chunk → Bool → List ℕ → Progress Scrub
+read_step p ack got = pick ack (after_read p (dirty_rows 4 (take (size_of p.at p.end) got))) (Err NoAnswer)
 
-abbrev pub reread_step : Chunk → Bool → List ℕ → Scrubbed
-reread_step p ack got = pick ack (pick (blank (take (size_of p.at p.end) got)) (next_chunk p) (Not NotTaken)) (Not NoAnswer)
+abbrev pub reread_step : Chunk → Bool → List ℕ → Progress Scrub
+reread_step p ack got = pick ack (pick (blank (take (size_of p.at p.end) got)) (next_chunk p) (Err NotTaken)) (Err NoAnswer)
 
-abbrev pub row_step : Chunk → Rows → Bool → Scrubbed
-row_step p r ack = pick ack (More (Wait p r wait_new)) (Not NoAnswer)
+abbrev pub row_step : Chunk → Rows → Bool → Progress Scrub
+row_step p r ack = pick ack (Ok (Some (Wait p r wait_new))) (Err NoAnswer)
 
 -- which of the three rows after this one are to be programmed
 abbrev pub bits : Rows → List Bool
 bits r = r.x ∷ r.y ∷ r.z ∷ []
 
-abbrev pub waited_step : Chunk → Rows → Waited → Scrubbed
-waited_step p r (W.More w) = More (Wait p r w)
-waited_step p r W.Ready = More (next_row p (r.row + row) (bits r))
-waited_step p r W.Busy = Not E.Busy
+abbrev pub waited_step : Chunk → Rows → Progress wait.Wait → Progress Scrub
+waited_step p r (Ok (Some w)) = Ok (Some (Wait p r w))
+waited_step p r (Ok None) = Ok (Some (next_row p (r.row + row) (bits r)))
+waited_step p r (Err e) = Err e
 
-abbrev pub scrub_step : Scrub → Bool → List ℕ → Scrubbed
+abbrev pub scrub_step : Scrub → Bool → List ℕ → Progress Scrub
 scrub_step (Read p) ack got = read_step p ack got
 scrub_step (Row p r) ack got = row_step p r ack
 scrub_step (Wait p r w) ack got = waited_step p r (wait_step w ack)
@@ -112,7 +109,7 @@ resume_scrub (Row p r) = rows_then p (program_rows r.row (true ∷ bits r))
 resume_scrub (Wait p r w) = rows_then p (try (resume_wait w) (λ _. program_rows (r.row + row) (bits r)))
 resume_scrub (Reread p) = try (reread p.at (size_of p.at p.end)) (λ _. onward p)
 
-abbrev pub after_scrub : Scrubbed → Proc (Res Unit)
-after_scrub (More s) = resume_scrub s
-after_scrub Done = fine
-after_scrub (Not e) = refuse e
+abbrev pub after_scrub : Progress Scrub → Proc (Res Unit)
+after_scrub (Ok (Some s)) = resume_scrub s
+after_scrub (Ok None) = fine
+after_scrub (Err e) = refuse e

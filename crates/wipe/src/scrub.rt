@@ -1,8 +1,8 @@
 // scrub: the wipe, chunk by chunk.
 use machine::wait::Wait;
-use protocol::answer::TagError;
 
-// The chunk at `at` of a wipe that ends at `end`, with the chunks left after it.
+// The chunk at `at` of a wipe that ends at `end`, with the chunks left after it. No invariant bounds the place: `chunk_from` makes one of any
+// numbers, and only then they are tested.
 #[derive(Clone, Copy)]
 pub struct Chunk {
     pub left: usize,
@@ -25,11 +25,4 @@ pub enum Scrub {
     Row(Chunk, Rows),
     Wait(Chunk, Rows, Wait),
     Reread(Chunk),
-}
-
-#[derive(Clone, Copy)]
-pub enum Scrubbed {
-    More(Scrub),
-    Done,
-    Not(TagError),
 }

@@ -5,6 +5,7 @@ use mathlib.Core.List.{List}
 use Prim.Native.Nat.{ℕ, zero, suc, ◌+◌, ◌-◌, ◌≤◌, ◌<◌}
 use native.Mathlib.Omega.{arith}
 use lib.ListN.{take, drop}
+use Rattle.std.specs.Prelude.{Option, Some, Ok}
 use Rattle.scan.specs.Zeros.{blank}
 use Rattle.scan.proofs.Blanks.{blank-take, blank-drop}
 use Rattle.session.specs.Sound.{scrub_sound}
@@ -14,9 +15,8 @@ use Rattle.wipe.specs.Scrub.{size_of, next_chunk, read_step}
 use Rattle.wipe.proofs.Scrubs.{chunk-from}
 use Rattle.wipe.specs.declared.scrub.Chunk.{Chunk}
 use Rattle.wipe.specs.declared.scrub.Scrub.TheVariants.{Read}
-use Rattle.wipe.specs.declared.scrub.Scrubbed.TheVariants.{More}
 use Rattle.wiping.specs.Onward.{led_of}
-use Rattle.wiping.specs.declared.after.Onward.TheVariants.{To}
+use Rattle.wiping.specs.declared.after.Onward.{Onward}
 
 -- zeros have no row that is not zero
 none_dirty : (k : ℕ) (l : List ℕ) → blank l ≡ true → some (dirty_rows k l) ≡ false
@@ -30,10 +30,10 @@ not_last m rows p s h =
     omega (arith, g)
 
 pub clean_led : (rows : ℕ) (p : Chunk) (l : List ℕ) (b : Bool) → 0 < p.left → p.at + 64 ≤ p.end → b ≡ blank (take 64 l) → b ≡ true
-    → To rows (Read (record { left = p.left - 1; at = p.at + 64; end = p.end })) ≡ led_of rows (read_step p true l)
+    → ◌≡◌ {A = Option Onward} (Some (record { rows = rows; wipe = Read (record { left = p.left - 1; at = p.at + 64; end = p.end }) })) (led_of rows (read_step p true l))
 clean_led rows p l b i j eb hb =
     let n : size_of p.at p.end ≡ 64 = omega arith in
-    let c : More (Read (record { left = p.left - 1; at = p.at + 64; end = p.end })) ≡ next_chunk p =
+    let c : Ok (Some (Read (record { left = p.left - 1; at = p.at + 64; end = p.end }))) ≡ next_chunk p =
     chunk-from p.left (p.at + 64) p.end (λ z. omega arith) in
     let r : next_chunk p ≡ read_step p true l = rw (n, none_dirty 4 (take 64 l) (sym eb ∙ hb)) in
     ap (led_of rows) (c ∙ r)

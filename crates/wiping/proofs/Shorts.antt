@@ -8,6 +8,7 @@ use native.Mathlib.Omega.{arith}
 use lib.Dec.{eqb, ltb, leb}
 use lib.ListN.{length, drop}
 use borrow.Author.Tests.{eqb-true, ltb-true, ltb-false, leb-true, not-false, le-leb, le-ltb, eq-eqb}
+use Rattle.std.specs.Prelude.{Option, Some, None, Ok}
 use Rattle.slices.specs.Bytes.{Wrote}
 use Rattle.slices.proofs.Truths.{both, both_so, either, either_no}
 use Rattle.protocol.specs.Transfer.{Transfer, sent}
@@ -19,27 +20,22 @@ use Rattle.machine.specs.declared.wait.Wait.TheVariants as W
 use Rattle.wipe.specs.Scrub.{scrub_ask, scrub_step}
 use Rattle.wipe.specs.declared.scrub.Scrub.{Scrub}
 use Rattle.wipe.specs.declared.scrub.Scrub.TheVariants as C
-use Rattle.wipe.specs.declared.scrub.Scrubbed.TheVariants.{More}
 use Rattle.stages.specs.Turns.{stage_ask, stage_step, wipe_turn, finish_turn}
 use Rattle.stages.specs.Able.{got_by}
 use Rattle.stages.specs.declared.stage.Stage.{Stage}
 use Rattle.stages.specs.declared.stage.Turn.TheVariants.{Open}
 use Rattle.session.specs.Sound.{scrub_sound, stage_sound, sound}
 use Rattle.session.specs.Steps.{counted, out_of}
-use Rattle.session.specs.declared.session.Now.TheVariants as N
 use Rattle.session.specs.declared.session.Session.{Session}
 use Rattle.numbers.specs.Flat.{scrub_code, scrub_place, stage_tag, stage_code, stage_place, flatten}
 use Rattle.numbers.specs.declared.flat.Flat.{Flat}
 use Rattle.state.specs.Bytes.{bytes_of, flat_of, decode_flat, decode_of}
-use Rattle.state.specs.declared.decode.Decoded.TheVariants.{State}
 use Rattle.kept.proofs.Decode.{flat_decoded}
 use Rattle.telling.specs.Step.{transfer_step, padded, ask_step, AskFits}
 use Rattle.telling.proofs.Frames.{ask-step, put_all, put_frame}
 use Rattle.telling.specs.Left.{Left, misfit, heard_by, settled, replied_left, reply_left}
-use Rattle.telling.specs.declared.opening.Heard.TheVariants.{Goes}
 use Rattle.wiping.specs.Onward.{wipes, wipe_stage, wiping, moved, noted, Fits, Move, Moves, short_left, Short}
 use Rattle.wiping.specs.declared.after.Onward.{Onward}
-use Rattle.wiping.specs.declared.after.Onward.TheVariants as O
 use Rattle.wiping.specs.declared.short.Next.{Next}
 
 below_two : (Q : ℕ → Type 0) → Q 0 → Q 1 → (k : ℕ) → k < 2 → Q k
@@ -75,7 +71,7 @@ no_out s = by_tag (λ (t w : ℕ). out_of (wipe_stage t w s) ≡ 0) refl refl re
 count-is : (n : ℕ) (s : Scrub) (tag which : ℕ) → wipes tag which ≡ true → counted (stage_ask n (wipe_stage tag which s)) true ≡ counted (scrub_ask s) true
 count-is n s = by_tag (λ (t w : ℕ). counted (stage_ask n (wipe_stage t w s)) true ≡ counted (scrub_ask s) true) refl refl refl
 
-step_is : (lent r out : List ℕ) (m : ℕ) (s next : Scrub) → scrub_step s true r ≡ More next → (tag which : ℕ) → wipes tag which ≡ true
+step_is : (lent r out : List ℕ) (m : ℕ) (s next : Scrub) → scrub_step s true r ≡ Ok (Some next) → (tag which : ℕ) → wipes tag which ≡ true
     → stage_step lent m (wipe_stage tag which s) true (got_by (wipe_stage tag which s) r out) ≡ Open m (wipe_stage tag which next)
 step_is lent r out m s next e =
     by_tag (λ (t w : ℕ). stage_step lent m (wipe_stage t w s) true (got_by (wipe_stage t w s) r out) ≡ Open m (wipe_stage t w next))
@@ -121,7 +117,7 @@ module _ (f : Flat) (s : Scrub) (w : wipes f.stage f.code.which ≡ true) (e : f
   flat_sound : sound (wiping f f.rows s) ≡ true
   flat_sound = both_so _ _ (le-leb f.mark 8192 inside) (stage_sane f.mark f.rows s sane f.stage f.code.which w)
 
-  flat_wipes : decode_flat f ≡ State (wiping f f.rows s)
+  flat_wipes : decode_flat f ≡ Some (wiping f f.rows s)
   flat_wipes = ap decode_flat flat_own ∙ flat_decoded (wiping f f.rows s) flat_sound
 
 fit_all : (q : Session) (st : Stage) (t r lent out : ℕ) → 19 ≤ t → 64 ≤ r → lent ≡ q.lent → out ≡ out_of st → misfit q st t r lent out ≡ false
@@ -129,10 +125,10 @@ fit_all q st t r lent out ht hr el eo = rw (le-ltb t 19 ht, le-ltb r 64 hr, eq-e
 
 module _ (l t r lent out : List ℕ) (ack : ℕ) (long : length l ≡ 20) (ht : 19 ≤ length t) (hr : 64 ≤ length r) (hl : length lent ≡ 0) (ho : length out ≡ 0)
     (yes : not (eqb ack 0) ≡ true) where
-  heard-is : (q : Session) (st : Stage) → decode_flat (flat_of l) ≡ State q → q.now ≡ N.Open st → q.lent ≡ 0 → out_of st ≡ 0
-      → heard_by (decode_of l) (length t) (length r) (length lent) (length out) ≡ Goes q.mark q.rows st
+  heard-is : (q : Session) (st : Stage) → decode_flat (flat_of l) ≡ Some q → q.now ≡ Some st → q.lent ≡ 0 → out_of st ≡ 0
+      → heard_by (decode_of l) (length t) (length r) (length lent) (length out) ≡ Ok (record { mark = q.mark; rows = q.rows; stage = st })
   heard-is q st d o z k =
-      let n : decode_of l ≡ State q = rw (eq-eqb (length l) 20 long) d in
+      let n : decode_of l ≡ Some q = rw (eq-eqb (length l) 20 long) d in
       let a : misfit q st (length t) (length r) (length lent) (length out) ≡ false = fit_all q st (length t) (length r) (length lent) (length out) ht hr (hl ∙ sym z) (ho ∙ sym k) in
       rw (n, o, a)
 
@@ -142,18 +138,18 @@ module _ (l t r lent out : List ℕ) (ack : ℕ) (long : length l ≡ 20) (ht : 
       let s = v.from in
       let st = wipe_stage f.stage f.code.which s in
       let o = v.onto in
-      let d : decode_flat (flat_of l) ≡ State (wiping f f.rows s) = ap decode_flat (sym ef) ∙ flat_wipes f s w e inside v.fits o.sane in
+      let d : decode_flat (flat_of l) ≡ Some (wiping f f.rows s) = ap decode_flat (sym ef) ∙ flat_wipes f s w e inside v.fits o.sane in
       let hd = heard-is (wiping f f.rows s) st d refl refl (no_out s f.stage f.code.which w) in
       let k : f.rows + counted (stage_ask (length lent) st) true ≡ n = ap (λ (c : ℕ). f.rows + c) (count-is (length lent) s f.stage f.code.which w) ∙ sym o.count in
       let u = step_is lent r out f.mark s next o.step f.stage f.code.which w in
       (λ i. replied_left (hd i) l t r lent out (yes i))
       ∙ ((λ i. settled lent (k i) (u i) t r) ∙ settles lent t r f.mark n next hl f.stage f.code.which w)
 
-  short-by : (f : Flat) (o : Onward) (x : Next) → f ≡ flat_of l → wipes f.stage f.code.which ≡ true → f.lent ≡ 0 → f.mark ≤ 8192 → Moves f r o
+  short-by : (f : Flat) (o : Option Onward) (x : Option Next) → f ≡ flat_of l → wipes f.stage f.code.which ≡ true → f.lent ≡ 0 → f.mark ≤ 8192 → Moves f r o
       → x ≡ noted f o → Short l t r lent out ack x
-  short-by f (O.To n next) x ef w e inside v ex =
-      subst (Short l t r lent out ack) (sym ex) (long, ht, short-is f ef n next w e inside v)
-  short-by f O.Not x ef w e inside v ex = subst (Short l t r lent out ack) (sym ex) tt
+  short-by f (Some o) x ef w e inside v ex =
+      subst (Short l t r lent out ack) (sym ex) (long, ht, short-is f ef o.rows o.wipe w e inside v)
+  short-by f None x ef w e inside v ex = subst (Short l t r lent out ack) (sym ex) tt
 
 -- what the checks of the short way say where they pass
 passed : (ack t r lent out : ℕ) → (eqb ack 0 || ltb t 19 || ltb r 64 || not (eqb lent 0) || not (eqb out 0)) ≡ false
@@ -178,7 +174,7 @@ pub moves_may : (ack t r lent out : ℕ) (f : Flat) (b : Bool) → (eqb ack 0 ||
 moves_may ack t r lent out f b e eb h = ((wiping-says f b eb h).2, (passed ack t r lent out e).2)
 
 -- what the code of `next_of` comes to
-pub next-is : (l t r lent out : List ℕ) (ack : ℕ) (f : Flat) (b : Bool) (o : Onward) (x : Next) → length l ≡ 20
+pub next-is : (l t r lent out : List ℕ) (ack : ℕ) (f : Flat) (b : Bool) (o : Option Onward) (x : Option Next) → length l ≡ 20
     → (eqb ack 0 || ltb (length t) 19 || ltb (length r) 64 || not (eqb (length lent) 0) || not (eqb (length out) 0)) ≡ false
     → f ≡ flat_of l → b ≡ wipes f.stage f.code.which → (b && eqb f.lent 0 && leb f.mark 8192) ≡ true → Moves f r o → x ≡ noted f o
     → Short l t r lent out ack x

@@ -8,6 +8,7 @@ use native.Mathlib.Omega.{arith}
 use lib.Dec.{eqb, ltb, leb}
 use lib.ListN.{length, take}
 use borrow.Author.Tests.{eqb-true, leb-true, eq-eqb}
+use Rattle.std.specs.Prelude.{Option, Some, None}
 use Rattle.slices.specs.Bytes.{splice}
 use Rattle.slices.proofs.Truths.{both, both_so, either}
 use Rattle.scan.specs.Zeros.{blank}
@@ -25,9 +26,6 @@ use Rattle.kept.proofs.Decode.{bytes_are}
 use Rattle.kept.proofs.Chunks.{stop-inside, scrub-says}
 use Rattle.wiping.specs.Onward.{wipes, bare, moved, Onto, Move}
 use Rattle.wiping.specs.Sweep.{Whole, Passes, head_of, chunk_bytes, swept, swept_left, Follows, Clean}
-use Rattle.wiping.specs.declared.after.Onward.TheVariants as O
-use Rattle.wiping.specs.declared.sweep.Swept.{Swept}
-use Rattle.wiping.specs.declared.sweep.Swept.TheVariants as S
 use Rattle.wiping.proofs.Cleans.{not_last, clean_led}
 use Rattle.wiping.proofs.Wipings.{bare-says, read-sane, leads_led, read_moves}
 use Rattle.wiping.proofs.Shorts.{short-is}
@@ -35,7 +33,7 @@ use Rattle.wiping.proofs.Shorts.{short-is}
 -- what the code of `passed` comes to
 pub passes : (m rows stop : ℕ) (p : Chunk) (got : List ℕ) (b : Bool) → stop ≡ chunk_stop m p → (ltb 0 stop && leb rows (p.at / 16)) ≡ true
     → p.at + 64 + 64 ≤ p.end → b ≡ blank (take 64 got) → b ≡ true
-    → Passes m rows p got (S.To (record { left = p.left - 1; at = p.at + 64; end = p.end }))
+    → Passes m rows p got (Some (record { left = p.left - 1; at = p.at + 64; end = p.end }))
 passes m rows stop p got b es h1 j eb hb =
     let s = read-sane m rows stop p es h1 in
     let i : p.at + 64 ≤ p.end = omega arith in
@@ -138,7 +136,7 @@ none_lent m rows lent p s =
 
 module _ (l r : List ℕ) (f : Flat) (p : Chunk) (n : ℕ) (long : length l ≡ 20) (bytes : Bytes l) (hr : 64 ≤ length r) (ef : f ≡ flat_of l)
     (en : n ≡ head_of f) (e : tested n f ≡ true) (ep : p ≡ chunk_from f.place) where
-  clean_to : (q : Chunk) → Passes f.mark (f.rows + 65536 * f.lent) p r (S.To q) → Clean l r (S.To q)
+  clean_to : (q : Chunk) → Passes f.mark (f.rows + 65536 * f.lent) p r (Some q) → Clean l r (Some q)
   clean_to q v = (
     subst (λ (x : Chunk). (x.left ≡ q.left + 1) × (x.at + 64 ≡ q.at) × Whole q) (ep ∙ ap (λ (x : Flat). chunk_from x.place) ef)
         (v.0.0, v.0.1, v.1),
@@ -150,15 +148,15 @@ module _ (l r : List ℕ) (f : Flat) (p : Chunk) (n : ℕ) (long : length l ≡ 
         let four : bytes_of (moved f f.rows (Read q)) ≡ swept l q =
         four_move f q h.0.phase h.0.bared z (v.0.2 ∙ ap (λ (x : Chunk). x.end) ep)
         ∙ ap (λ (x : List ℕ). splice x 12 (chunk_bytes q)) (ap bytes_of ef ∙ bytes_are l long bytes) in
-        let move : Move f r f.rows (Read q) = read_moves f p r true (O.To f.rows (Read q)) (sym h.0.bared) refl h.0.phase ep o in
+        let move : Move f r f.rows (Read q) = read_moves f p r true (Some (record { rows = f.rows; wipe = Read q })) (sym h.0.bared) refl h.0.phase ep o in
         short-is l t r lent out ack long ht hr hl ho ha f ef f.rows (Read q) h.0.wiper z h.1 move
         ∙ (λ i. record { step = (swept_left l q t r).step; state = four i; transfer = (swept_left l q t r).transfer; reply = r }),
   )
 
   -- what the code of `clean_of` comes to
-  pub clean_is : (x : Swept) → Passes f.mark (f.rows + 65536 * f.lent) p r x → Clean l r x
-  clean_is (S.To q) v = clean_to q v
-  clean_is S.Not v = tt
+  pub clean_is : (x : Option Chunk) → Passes f.mark (f.rows + 65536 * f.lent) p r x → Clean l r x
+  clean_is (Some q) v = clean_to q v
+  clean_is None v = tt
 
 -- two numbers as one, n, which has the bytes of both
 four_bytes : (l a n : ℕ) → l < 65536 → n ≡ l + 65536 * a

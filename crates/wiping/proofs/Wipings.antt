@@ -6,6 +6,8 @@ use Prim.Native.Nat.{ℕ, zero, suc, ◌+◌, ◌*◌, ◌/◌, ◌%◌, ◌<◌
 use native.Mathlib.Omega.{arith}
 use lib.Dec.{eqb, ltb, leb}
 use borrow.Author.Tests.{eqb-true}
+use Rattle.std.specs.Prelude.{Option, Some, None, Ok, Err}
+use Rattle.protocol.specs.Answer.{Progress}
 use Rattle.machine.specs.Wait.{wait_new}
 use Rattle.machine.specs.declared.wait.Wait.{Wait}
 use Rattle.machine.specs.declared.wait.Wait.TheVariants as W
@@ -14,8 +16,6 @@ use Rattle.wipe.specs.declared.scrub.Chunk.{Chunk}
 use Rattle.wipe.specs.declared.scrub.Rows.{Rows}
 use Rattle.wipe.specs.declared.scrub.Scrub.{Scrub}
 use Rattle.wipe.specs.declared.scrub.Scrub.TheVariants as C
-use Rattle.wipe.specs.declared.scrub.Scrubbed.{Scrubbed}
-use Rattle.wipe.specs.declared.scrub.Scrubbed.TheVariants as D
 use Rattle.session.specs.Sound.{chunk_stop, row_sound, scrub_sound}
 use Rattle.session.specs.Steps.{counted}
 use Rattle.slices.proofs.Truths.{both}
@@ -28,13 +28,12 @@ use Rattle.kept.proofs.Chunks.{stop-inside, scrub-says}
 use Rattle.kept.proofs.Ables.{scrub_near}
 use Rattle.wiping.specs.Onward.{bare, led_of, Leads, AnyLeads, Fits, Moves, AnyMoves}
 use Rattle.wiping.specs.declared.after.Onward.{Onward}
-use Rattle.wiping.specs.declared.after.Onward.TheVariants as O
 
-leads_from : (m rows : ℕ) (s : Scrub) (got : List ℕ) (x : Scrubbed) → scrub_sound m rows s ≡ true → counted (scrub_ask s) true ≡ 0 → scrub_step s true got ≡ x
+leads_from : (m rows : ℕ) (s : Scrub) (got : List ℕ) (x : Progress Scrub) → scrub_sound m rows s ≡ true → counted (scrub_ask s) true ≡ 0 → scrub_step s true got ≡ x
     → Leads m rows s got (led_of rows x)
-leads_from m rows s got (D.More next) h z e = record { sane = h; step = e; count = omega (arith, z) }
-leads_from m rows s got D.Done h z e = tt
-leads_from m rows s got (D.Not k) h z e = tt
+leads_from m rows s got (Ok (Some next)) h z e = record { sane = h; step = e; count = omega (arith, z) }
+leads_from m rows s got (Ok None) h z e = tt
+leads_from m rows s got (Err k) h z e = tt
 
 -- the tests of the four places that a wipe can be at
 pub read-sane : (m rows stop : ℕ) (p : Chunk) → stop ≡ chunk_stop m p → (ltb 0 stop && leb rows (p.at / 16)) ≡ true → scrub_sound m rows (C.Read p) ≡ true
@@ -66,21 +65,21 @@ rows_few m rows p r e =
     omega (arith, g, l, n)
 
 pub leads_row : (m rows : ℕ) (p : Chunk) (r : Rows) (w : Wait) → scrub_sound m rows (C.Row p r) ≡ true → w ≡ wait_new
-    → AnyLeads m rows (C.Row p r) (O.To (rows + 1) (C.Wait p r w))
-leads_row m rows p r w h e got = record { sane = h; step = ap (λ (x : Wait). D.More (C.Wait p r x)) (sym e); count = refl }
+    → AnyLeads m rows (C.Row p r) (Some (record { rows = rows + 1; wipe = C.Wait p r w }))
+leads_row m rows p r w h e got = record { sane = h; step = ap (λ (x : Wait). Ok (Some (C.Wait p r x))) (sym e); count = refl }
 
 pub leads_poll : (m rows n : ℕ) (p : Chunk) (r : Rows) (s : Scrub) → scrub_sound m rows (C.Wait p r (W.Poll n)) ≡ true
-    → s ≡ next_row p (r.row + 16) (bits r) → AnyLeads m rows (C.Wait p r (W.Poll n)) (O.To rows s)
-leads_poll m rows n p r s h e got = record { sane = h; step = ap D.More (sym e); count = omega arith }
+    → s ≡ next_row p (r.row + 16) (bits r) → AnyLeads m rows (C.Wait p r (W.Poll n)) (Some (record { rows = rows; wipe = s }))
+leads_poll m rows n p r s h e got = record { sane = h; step = ap (λ (x : Scrub). Ok (Some x)) (sym e); count = omega arith }
 
 -- a step that programs nothing
-pub leads_led : (m rows : ℕ) (s : Scrub) (got : List ℕ) (x : Scrubbed) (o : Onward) → scrub_sound m rows s ≡ true → counted (scrub_ask s) true ≡ 0
+pub leads_led : (m rows : ℕ) (s : Scrub) (got : List ℕ) (x : Progress Scrub) (o : Option Onward) → scrub_sound m rows s ≡ true → counted (scrub_ask s) true ≡ 0
     → x ≡ scrub_step s true got → o ≡ led_of rows x → Leads m rows s got o
 leads_led m rows s got x o h z e eo = subst (Leads m rows s got) (sym eo) (leads_from m rows s got x h z (sym e))
 
-moves_by : (f : Flat) (s : Scrub) (got : List ℕ) (o : Onward) → Fits f s → Leads f.mark f.rows s got o → Moves f got o
-moves_by f s got (O.To n next) h l = record { from = s; fits = h; onto = l }
-moves_by f s got O.Not h l = tt
+moves_by : (f : Flat) (s : Scrub) (got : List ℕ) (o : Option Onward) → Fits f s → Leads f.mark f.rows s got o → Moves f got o
+moves_by f s got (Some o) h l = record { from = s; fits = h; onto = l }
+moves_by f s got None h l = tt
 
 -- three bits are those of their number
 bits_are : (b : ℕ) → b < 8 → b ≡ bit_of (eqb (b % 2) 1) + 2 * bit_of (eqb (b / 2 % 2) 1) + 4 * bit_of (eqb (b / 4 % 2) 1)
@@ -141,24 +140,24 @@ poll-fits f h e =
       place = row-place f.place h;
     }
 
-pub read_moves : (f : Flat) (q : Chunk) (got : List ℕ) (b : Bool) (o : Onward) → b ≡ bare f.code f.place → b ≡ true → f.code.phase ≡ 1
+pub read_moves : (f : Flat) (q : Chunk) (got : List ℕ) (b : Bool) (o : Option Onward) → b ≡ bare f.code f.place → b ≡ true → f.code.phase ≡ 1
     → q ≡ chunk_from f.place → Leads f.mark f.rows (C.Read q) got o → Moves f got o
 read_moves f q got b o eb h k e =
     moves_by f (C.Read q) got o (subst (λ (x : Chunk). Fits f (C.Read x)) (sym e) (read_fits f (sym eb ∙ h) k))
 
-pub reread_moves : (f : Flat) (q : Chunk) (got : List ℕ) (b : Bool) (o : Onward) → b ≡ bare f.code f.place → b ≡ true → f.code.phase ≡ 4
+pub reread_moves : (f : Flat) (q : Chunk) (got : List ℕ) (b : Bool) (o : Option Onward) → b ≡ bare f.code f.place → b ≡ true → f.code.phase ≡ 4
     → q ≡ chunk_from f.place → Leads f.mark f.rows (C.Reread q) got o → Moves f got o
 reread_moves f q got b o eb h k e =
     moves_by f (C.Reread q) got o (subst (λ (x : Chunk). Fits f (C.Reread x)) (sym e) (reread-fits f (sym eb ∙ h) k))
 
-pub row_moves : (f : Flat) (q : Chunk) (r : Rows) (o : Onward) → f.place.bits < 8
+pub row_moves : (f : Flat) (q : Chunk) (r : Rows) (o : Option Onward) → f.place.bits < 8
     → (eqb f.code.phase 2 && eqb f.code.inner 0 && eqb f.code.count 0) ≡ true → q ≡ chunk_from f.place → r ≡ rows_from f.place
     → AnyLeads f.mark f.rows (C.Row q r) o → AnyMoves f o
 row_moves f q r o h k eq er l got =
     let g : Fits f (C.Row q r) = subst (Fits f) (λ i. C.Row (sym eq i) (sym er i)) (row_fits f h k) in
     moves_by f (C.Row q r) got o g (l got)
 
-pub poll_moves : (f : Flat) (q : Chunk) (r : Rows) (o : Onward) → f.place.bits < 8
+pub poll_moves : (f : Flat) (q : Chunk) (r : Rows) (o : Option Onward) → f.place.bits < 8
     → (eqb f.code.phase 3 && eqb f.code.inner 1) ≡ true → q ≡ chunk_from f.place → r ≡ rows_from f.place
     → AnyLeads f.mark f.rows (C.Wait q r (W.Poll f.code.count)) o → AnyMoves f o
 poll_moves f q r o h k eq er l got =

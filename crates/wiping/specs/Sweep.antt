@@ -10,7 +10,7 @@
 --   swept_left l p t r     == what a step leaves that goes on to read the chunk p
 --   Follows l p           == the chunk p is whole, and the one after that which the state's bytes l are at
 --   Clean l r x           == where x is a chunk: it follows, and an acknowledge that lends no data and no `out` leaves that
-use Rattle.std.specs.Prelude.{◌≡◌, true, false, not, List, [], ◌∷◌, ◌++◌, ℕ, ◌+◌, ◌*◌, ◌/◌, ◌%◌, ◌≤◌, eqb, length, drop}
+use Rattle.std.specs.Prelude.{◌≡◌, true, false, not, List, [], ◌∷◌, ◌++◌, ℕ, ◌+◌, ◌*◌, ◌/◌, ◌%◌, ◌≤◌, eqb, length, drop, Option, Some, None}
 use Rattle.slices.specs.Bytes.{splice}
 use Rattle.protocol.specs.Transfer.{sent}
 use Rattle.machine.specs.Ask.{meant}
@@ -22,8 +22,6 @@ use Rattle.telling.specs.Left.{Left, reply_left}
 use Rattle.numbers.specs.declared.flat.Flat.{Flat}
 use Rattle.state.specs.Bytes.{two_at}
 use Rattle.wiping.specs.Onward.{Onto}
-use Rattle.wiping.specs.declared.sweep.Swept.{Swept}
-use Rattle.wiping.specs.declared.sweep.Swept.TheVariants as S
 
 abbrev pub Whole : Chunk → Type 0
 Whole p = p.at + 64 ≤ p.end
@@ -31,9 +29,9 @@ Whole p = p.at + 64 ≤ p.end
 abbrev pub After : Chunk → Chunk → Type 0
 After p q = (p.left ≡ q.left + 1) × (p.at + 64 ≡ q.at) × (q.end ≡ p.end)
 
-abbrev pub Passes : ℕ → ℕ → Chunk → List ℕ → Swept → Type 0
-Passes m rows p got (S.To q) = (After p q) × Whole q × Onto m rows (Read p) got rows (Read q)
-Passes m rows p got S.Not = Unit
+abbrev pub Passes : ℕ → ℕ → Chunk → List ℕ → Option Chunk → Type 0
+Passes m rows p got (Some q) = (After p q) × Whole q × Onto m rows (Read p) got rows (Read q)
+Passes m rows p got None = Unit
 
 abbrev pub head_of : Flat → ℕ
 head_of f =
@@ -57,9 +55,9 @@ swept_left l p t r = record {
 abbrev pub Follows : List ℕ → Chunk → Type 0
 Follows l p = (two_at l 12 ≡ p.left + 1) × (two_at l 14 + 64 ≡ p.at) × Whole p
 
-abbrev pub Clean : List ℕ → List ℕ → Swept → Type 0
-Clean l r (S.To p) =
+abbrev pub Clean : List ℕ → List ℕ → Option Chunk → Type 0
+Clean l r (Some p) =
     (Follows l p)
     × ((t lent out : List ℕ) (ack : ℕ) → 19 ≤ length t → length lent ≡ 0 → length out ≡ 0 → not (eqb ack 0) ≡ true
     → reply_left l t r lent out ack ≡ swept_left l p t r)
-Clean l r S.Not = Unit
+Clean l r None = Unit

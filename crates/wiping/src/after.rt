@@ -2,8 +2,9 @@
 use wipe::scrub::Scrub;
 
 #[derive(Clone, Copy)]
-pub enum Onward {
-    // The rows programmed by then, and where the wipe is.
-    To(usize, Scrub),
-    Not,
+pub struct Onward {
+    // Rows programmed by then.
+    pub rows: usize,
+    // Where the wipe is.
+    pub wipe: Scrub,
 }

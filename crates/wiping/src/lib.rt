@@ -4,4 +4,3 @@
 
 pub mod after;
 pub mod short;
-pub mod sweep;

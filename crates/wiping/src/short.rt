@@ -3,8 +3,9 @@ use numbers::flat::Flat;
 use wipe::scrub::Scrub;
 
 #[derive(Clone, Copy)]
-pub enum Next {
-    // The state's numbers, and where the wipe is.
-    To(Flat, Scrub),
-    Not,
+pub struct Next {
+    // The state's numbers.
+    pub flat: Flat,
+    // Where the wipe is.
+    pub wipe: Scrub,
 }

@@ -8,11 +8,13 @@ use native.Mathlib.Omega.{arith}
 use native.Mathlib.Nat.{add_assoc, add-zero}
 use lib.ListN.{length, take, drop, length-take, length-drop}
 use lib.Seq.{drop-drop, take_all}
+use Rattle.std.specs.Prelude.{Ok, Err, Some, None}
 use Rattle.slices.specs.Pick.{pick}
 use Rattle.slices.proofs.Cases.{lt_or_ge}
 use Rattle.scan.specs.Rows.{row_len, row_count}
 use Rattle.scan.specs.Zeros.{alike}
 use Rattle.protocol.specs.Tag.{user, chunk}
+use Rattle.protocol.specs.Answer.{Progress}
 use Rattle.protocol.specs.Proc as proc
 use Rattle.protocol.specs.Proc.{Proc, ask, Res, ok, try, fine, refuse}
 use Rattle.protocol.specs.Bus.{read}
@@ -21,33 +23,30 @@ use Rattle.protocol.specs.declared.answer.TagError.TheVariants.{NoAnswer}
 use Rattle.machine.specs.Ask.{meant}
 use Rattle.machine.specs.Wait.{wait_new, wait_ask, wait_step, resume_wait, after_wait}
 use Rattle.writing.specs.Write.{piece_of, chunk_of, check_from, check_new, piece_from, write_new, next_piece, piece_step, piece_waited, compared_to, check_step, write_step, write_ask, back_of, rows_on, resume_write, after_write}
-use Rattle.machine.specs.declared.wait.Waited.{Waited}
-use Rattle.machine.specs.declared.wait.Waited.TheVariants as W
+use Rattle.machine.specs.declared.wait.Wait as wait
 use Rattle.writing.specs.declared.write.Piece.{Piece}
 use Rattle.writing.specs.declared.write.Check.{Check}
 use Rattle.writing.specs.declared.write.Write.{Write}
 use Rattle.writing.specs.declared.write.Write.TheVariants as K
-use Rattle.writing.specs.declared.write.Written.{Written}
-use Rattle.writing.specs.declared.write.Written.TheVariants.{More}
 use Rattle.machine.proofs.Waits.{wait_bridge}
 
 -- the code counts down by one
 pub check_from_lem : (left start done : ℕ) (same : Bool) → (left ≡ 0 → ⊥)
-    → More (K.Check (record { left = left - 1; start = start; done = done; alike = same })) ≡ check_from left start done same
+    → Ok (Some (K.Check (record { left = left - 1; start = start; done = done; alike = same }))) ≡ check_from left start done same
 check_from_lem zero start done same h = absurd (h refl)
-check_from_lem (suc l) start done same h = ap (λ (k : ℕ). More (K.Check (record { left = k; start = start; done = done; alike = same }))) (omega arith)
+check_from_lem (suc l) start done same h = ap (λ (k : ℕ). Ok (Some (K.Check (record { left = k; start = start; done = done; alike = same })))) (omega arith)
 
-piece_from_lem : (left start done n : ℕ) → (left ≡ 0 → ⊥) → More (K.Row (record { left = left - 1; start = start; done = done })) ≡ piece_from left start done n
+piece_from_lem : (left start done n : ℕ) → (left ≡ 0 → ⊥) → Ok (Some (K.Row (record { left = left - 1; start = start; done = done }))) ≡ piece_from left start done n
 piece_from_lem zero start done n h = absurd (h refl)
-piece_from_lem (suc l) start done n h = ap (λ (k : ℕ). More (K.Row (record { left = k; start = start; done = done }))) (omega arith)
+piece_from_lem (suc l) start done n h = ap (λ (k : ℕ). Ok (Some (K.Row (record { left = k; start = start; done = done })))) (omega arith)
 
 pub next_piece_lem : (p : Piece) (n k : ℕ) → k ≡ piece_of p n → (p.left ≡ 0 → ⊥)
-    → More (K.Row (record { left = p.left - 1; start = p.start; done = p.done + k })) ≡ next_piece p n
+    → Ok (Some (K.Row (record { left = p.left - 1; start = p.start; done = p.done + k }))) ≡ next_piece p n
 next_piece_lem p n k e h =
-    ap (λ (j : ℕ). More (K.Row (record { left = p.left - 1; start = p.start; done = p.done + j }))) e ∙ piece_from_lem p.left p.start (p.done + piece_of p n) n h
+    ap (λ (j : ℕ). Ok (Some (K.Row (record { left = p.left - 1; start = p.start; done = p.done + j })))) e ∙ piece_from_lem p.left p.start (p.done + piece_of p n) n h
 
 -- a write from its first row, or with no row at all
-pub first_piece : (start n k : ℕ) → k ≡ row_count start n → (k ≡ 0 → ⊥) → More (K.Row (record { left = k - 1; start = start; done = 0 })) ≡ write_new start n
+pub first_piece : (start n k : ℕ) → k ≡ row_count start n → (k ≡ 0 → ⊥) → Ok (Some (K.Row (record { left = k - 1; start = start; done = 0 }))) ≡ write_new start n
 first_piece start n k e h = piece_from_lem k start 0 n h ∙ ap (λ (l : ℕ). piece_from l start 0 n) e
 
 pub no_piece : (start n k : ℕ) → k ≡ row_count start n → k ≡ 0 → check_new start n ≡ write_new start n
@@ -70,7 +69,7 @@ chunk-take d n l e = ⊎_elim short long (lt_or_ge (length l - d) 64)
 pub parts_even : (got lent : List ℕ) (d n : ℕ) → n ≤ length got → d + n ≤ length lent → length (take n got) ≡ length (take (d + n - d) (drop d lent))
 parts_even got lent d n h g = simp (length-take, length-drop) (omega arith)
 
-pub check_law : (c : Check) (ack : Bool) (got lent : List ℕ) (n : ℕ) (t : Bool) (r : Written) → ack ≡ true → n ≡ chunk_of c.done (length lent)
+pub check_law : (c : Check) (ack : Bool) (got lent : List ℕ) (n : ℕ) (t : Bool) (r : Progress Write) → ack ≡ true → n ≡ chunk_of c.done (length lent)
     → t ≡ alike (take n got) (take (c.done + n - c.done) (drop c.done lent)) → r ≡ compared_to c (c.alike && t) → r ≡ check_step c ack got lent
 check_law c ack got lent n t r e en et er =
     er ∙ ap (λ (b : Bool). compared_to c (c.alike && b))
@@ -103,12 +102,12 @@ row_case : (lent : List ℕ) (p : Piece) (b : Bool)
 row_case lent p true = refl
 row_case lent p false = refl
 
-waited_case : (lent : List ℕ) (p : Piece) (x : Waited)
+waited_case : (lent : List ℕ) (p : Piece) (x : Progress wait.Wait)
     → try (try (after_wait x) (λ _. rows_on lent p)) (λ _. back_of lent p.start) ≡ after_write lent (piece_waited p x (length lent))
-waited_case lent p (W.More w) = refl
-waited_case lent p W.Ready =
+waited_case lent p (Ok (Some w)) = refl
+waited_case lent p (Ok None) =
     rows_on_lem lent p.left p.start _ (p.done + piece_of p (length lent)) (add_assoc p.start p.done (piece_of p (length lent)))
-waited_case lent p W.Busy = refl
+waited_case lent p (Err e) = refl
 
 -- the chunks from `done` on
 checks_on : (lent : List ℕ) (left start at done : ℕ) (same : Bool) → at ≡ start + done

@@ -1,8 +1,8 @@
 // write: the bytes row by row, then every byte read back. The bytes are lent anew for each step.
 use machine::wait::Wait;
-use protocol::answer::TagError;
 
-// The rows of the bytes at `start`: `done` bytes are programmed, and `left` rows come after this one.
+// The rows of the bytes at `start`: `done` bytes are programmed, and `left` rows come after this one. No invariant bounds them: `piece_from` makes
+// one of any numbers, and only then they are tested.
 #[derive(Clone, Copy)]
 pub struct Piece {
     pub left: usize,
@@ -24,11 +24,4 @@ pub enum Write {
     Row(Piece),
     Wait(Piece, Wait),
     Check(Check),
-}
-
-#[derive(Clone, Copy)]
-pub enum Written {
-    More(Write),
-    Done,
-    Not(TagError),
 }

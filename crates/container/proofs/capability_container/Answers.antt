@@ -1,3 +1,4 @@
+use Rattle.std.proofs.Common.{refl}
 use borrow.Author.Tests.{lt-ltb, le-ltb}
 use Rattle.slices.specs.Bytes.{be}
 use Rattle.layout.specs.Container.{container_answer, container}
@@ -9,4 +10,4 @@ returns-then-area-gt524287 c = simp (lt-ltb _ _ c.if-area-gt524287.true)
 
 pub returns : goal.returns
 unfolding container_answer container be
-returns c = simp (le-ltb _ _ c.if-area-gt524287.false)
+returns c = rw (c.to_be_bytes.ensures, le-ltb _ _ c.if-area-gt524287.false) refl

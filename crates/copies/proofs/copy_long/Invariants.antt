@@ -1,11 +1,7 @@
-use Prim.Native.Nat.{◌+◌, ◌-◌, ◌≤◌}
-use lib.ListN.{length, take}
-use Rattle.slices.specs.Bytes.{Wrote}
+use Rattle.std.proofs.Common.{◌≡◌}
+use Rattle.copies.proofs.Copied.{Copied}
 use Rattle.copies.proofs.copy_long.Given as goal
 
--- A part is written where the parts before it ended.
-abbrev pub invariant-loop-i : goal.invariant-loop-i
-invariant-loop-i l = (l.i ≤ length l.src) × Wrote l.initial.out l.at (take l.i l.src) l.out (l.at + l.i)
-
-abbrev pub decreases-loop-i : goal.decreases-loop-i
-decreases-loop-i l = length l.src - l.i
+-- what the iterator still has is still to come
+abbrev pub invariant-loop-part : goal.invariant-loop-part
+invariant-loop-part l = (l.part-iterator.size ≡ 8192) × Copied l.initial.out l.at l.src l.part-iterator.rest.now l.out l.next

@@ -1,40 +1,30 @@
-use mathlib.Core.Path.{◌≡◌, refl, ap, sym}
+use mathlib.Core.Path.{refl, ap, sym}
 use mathlib.Core.List.{◌∷◌, []}
-use Prim.Native.Nat.{ℕ, ◌<◌, ◌*◌, ◌+◌}
-use lib.ListN.{length, take}
-use lib.Seq.{length-take-le}
+use Prim.Native.Nat.{ℕ, ◌<◌}
+use lib.ListN.{length}
 use Rattle.slices.proofs.Splice.{chain, splice-none}
 use Rattle.digits.specs.Text.{hex_of}
-use Rattle.digits.proofs.Texts.{hex_length, hex_more}
-use Rattle.digits.proofs.Writes.{wrote_as}
+use Rattle.digits.proofs.Texts.{hex_more}
+use Rattle.digits.proofs.Writes.{wrote_as, hex_place}
 use native.Mathlib.Omega.{arith}
 use Rattle.digits.proofs.put_hex.Goals as goal
 
-pub loop-i-init : goal.loop-i-init
+pub loop-byte-init : goal.loop-byte-init
 unfolding hex_of
-loop-i-init c = (omega arith, refl, record { bytes = sym (splice-none _ _); place = omega arith })
+loop-byte-init c = (refl, record { bytes = sym (splice-none _ _); place = omega arith })
 
 pub put-b-requires : goal.put-b-requires
-put-b-requires c = omega (
-  arith,
-  (let it : c.loop-i.a ≡ c.args.at + 2 * c.loop-i.i = let s = c.args.s.now in
-      omega (arith, c.loop-i.invariant.2.place, hex_length (take c.loop-i.i s), length-take-le c.loop-i.i s c.loop-i.invariant.0) in it),
-)
+put-b-requires c = omega (arith, hex_place c.args.s.now c.loop-byte.byte-index (omega arith) c.loop-byte.invariant.1)
 
 pub put-a-requires : goal.put-a-requires
-put-a-requires c = omega (
-  arith,
-  (let it : c.loop-i.a ≡ c.args.at + 2 * c.loop-i.i = let s = c.args.s.now in
-      omega (arith, c.loop-i.invariant.2.place, hex_length (take c.loop-i.i s), length-take-le c.loop-i.i s c.loop-i.invariant.0) in it),
-  c.put-b.ensures.place,
-)
+put-a-requires c = omega (arith, hex_place c.args.s.now c.loop-byte.byte-index (omega arith) c.loop-byte.invariant.1, c.put-b.ensures.place)
 
-pub loop-i-preserved : goal.loop-i-preserved
-loop-i-preserved c = let s = c.args.s.now in
-    let i = c.loop-i.i in
+pub loop-byte-preserved : goal.loop-byte-preserved
+loop-byte-preserved c = let s = c.args.s.now in
+    let i = c.loop-byte.byte-index in
     let h : i < length s = omega arith in
-    let k = (let it : c.loop-i.a ≡ c.args.at + 2 * c.loop-i.i = let s = c.args.s.now in
-    omega (arith, c.loop-i.invariant.2.place, hex_length (take c.loop-i.i s), length-take-le c.loop-i.i s c.loop-i.invariant.0) in it) in
-    let hi = ap (λ (d : ℕ). d ∷ []) c.hex_digit.ensures in
-    let lo = ap (λ (d : ℕ). d ∷ []) c.hex_digit-in-loop-i.ensures in
-    (omega arith, omega arith, wrote_as (hex_more s i h) (chain (omega (arith, c.put-b.ensures.place)) (chain (omega arith) c.loop-i.invariant.2 (wrote_as hi c.put-b.ensures)) (wrote_as lo c.put-a.ensures)))
+    let w = c.loop-byte.invariant.1 in
+    let k = hex_place s i (omega arith) w in
+    let hi = wrote_as (ap (λ (d : ℕ). d ∷ []) c.hex_digit.ensures) c.put-b.ensures in
+    let lo = wrote_as (ap (λ (d : ℕ). d ∷ []) c.hex_digit-in-loop-byte.ensures) c.put-a.ensures in
+    (omega arith, wrote_as (hex_more s i h) (chain (omega (arith, k, c.put-b.ensures.place)) (chain (omega (arith, k)) w hi) lo))

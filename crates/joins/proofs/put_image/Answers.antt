@@ -6,26 +6,6 @@ use Rattle.joins.proofs.Pieces.{pieces}
 use native.Mathlib.Omega.{arith}
 use Rattle.joins.proofs.put_image.Goals as goal
 
-pub put_front-a-requires : goal.put_front-a-requires
-put_front-a-requires c = let a = c.args in
-    let f = front_length a.area a.format a.kind.now (length a.head.now + length a.rest.now) in
-    (c.requires.0, c.requires.1, omega arith, omega arith)
-
-pub copy_to-b-requires : goal.copy_to-b-requires
-copy_to-b-requires c = let a = c.args in
-    let f = front_length a.area a.format a.kind.now (length a.head.now + length a.rest.now) in
-    omega (arith, c.put_front-a, c.requires.2)
-
-pub copy_long-c-requires : goal.copy_long-c-requires
-copy_long-c-requires c = let a = c.args in
-    let f = front_length a.area a.format a.kind.now (length a.head.now + length a.rest.now) in
-    omega (arith, c.put_front-a, c.copy_to-b, c.requires.2)
-
-pub put-requires : goal.put-requires
-put-requires c = let a = c.args in
-    let f = front_length a.area a.format a.kind.now (length a.head.now + length a.rest.now) in
-    omega (arith, c.put_front-a, c.copy_to-b, c.copy_long-c, c.requires.2)
-
 pub returns : goal.returns
 returns c = let a = c.args in
     let f = front_length a.area a.format a.kind.now (length a.head.now + length a.rest.now) in

@@ -5,4 +5,4 @@ use Rattle.parts.proofs.put_container.Goals as goal
 
 pub returns : goal.returns
 unfolding container
-returns c = chain (omega arith) c.copy_to-at.ensures c.put16.ensures
+returns c = chain (omega arith) c.copy_to-at.ensures c.put_be.ensures

@@ -20,11 +20,11 @@ pub copy_to-a-requires : goal.copy_to-a-requires
 unfolding be
 copy_to-a-requires c = let h = ap length (message-long c.args.n c.if-n-lt255.false) in omega arith
 
-pub put16-requires : goal.put16-requires
+pub put_be-requires : goal.put_be-requires
 unfolding be
-put16-requires c = let h = ap length (message-long c.args.n c.if-n-lt255.false) in omega arith
+put_be-requires c = let h = ap length (message-long c.args.n c.if-n-lt255.false) in omega arith
 
 pub returns : goal.returns
 unfolding be
 returns c = let h = ap length (message-long c.args.n c.if-n-lt255.false) in
-    rw (message-long c.args.n c.if-n-lt255.false) (chain (omega arith) c.copy_to-a.ensures c.put16.ensures)
+    rw (message-long c.args.n c.if-n-lt255.false) (chain (omega arith) c.copy_to-a.ensures c.put_be.ensures)

@@ -28,12 +28,12 @@ pub put-b-requires-2 : goal.put-b-requires-2
 unfolding be
 put-b-requires-2 c = let h = ap length (record_long c.args.format c.args.kind_len c.args.payload c.if-payload-le255.false) in omega arith
 
-pub put32-requires : goal.put32-requires
+pub put_be-requires : goal.put_be-requires
 unfolding be
-put32-requires c = let h = ap length (record_long c.args.format c.args.kind_len c.args.payload c.if-payload-le255.false) in omega arith
+put_be-requires c = let h = ap length (record_long c.args.format c.args.kind_len c.args.payload c.if-payload-le255.false) in omega arith
 
 pub returns : goal.returns
 unfolding be
 returns c = let e = record_long c.args.format c.args.kind_len c.args.payload c.if-payload-le255.false in
     let h = ap length e in
-    rw e (chain (omega arith) (chain (omega arith) c.put-a-2.ensures c.put-b-2.ensures) c.put32.ensures)
+    rw e (chain (omega arith) (chain (omega arith) c.put-a-2.ensures c.put-b-2.ensures) c.put_be.ensures)

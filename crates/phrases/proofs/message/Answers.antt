@@ -1,13 +1,13 @@
-use native.Mathlib.Omega.{arith}
-use mathlib.Core.Path.{ap, ◌∙◌}
-use lib.ListN.{replicate}
-use Rattle.slices.specs.Bytes.{splice}
-use Rattle.messages.specs.declared.Line.{Line}
-use Rattle.messages.proofs.Table.{short, widened}
+use mathlib.Core.Path.{ap, ap₂, ◌∙◌}
+use mathlib.Core.List.{List, ◌++◌}
+use Prim.Native.Nat.{ℕ}
+use lib.ListN.{length}
+use Rattle.messages.specs.Messages.{padded}
+use Rattle.std.proofs.lemmas.List.{drop-replicate}
 use Rattle.phrases.proofs.message.Goals as goal
 
 pub returns : goal.returns
-returns c = (
-  ap (λ (l : Line). l.len) c.found-m.ensures,
-  c.copy_to.ensures.bytes ∙ ap (λ (l : Line). splice (replicate 64 0) 0 l.text) c.found-m.ensures ∙ widened _ (omega (arith, short c.args.number)),
-)
+unfolding padded
+returns c =
+    let e = c.text_of-m.ensures.value in
+    (ap length e, ap₂ (λ (l r : List ℕ). l ++ r) c.copy_from_slice.ensures.after (drop-replicate (length c.text_of-m.result.now) 64 0) ∙ ap (padded 64) e)

@@ -1,4 +1,3 @@
-use Prim.Native.Nat.{◌-◌}
 use borrow.Author.Tests.{not-false}
 use Rattle.scan.proofs.Highs.{back_none, back_on, back_block}
 use native.Mathlib.Omega.{arith}

@@ -1,4 +1,3 @@
-use Prim.Native.Nat.{◌-◌}
 use Rattle.scan.specs.Zeros.{Back}
 use Rattle.reach.proofs.back.Given as goal
 

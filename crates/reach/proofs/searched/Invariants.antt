@@ -1,10 +1,7 @@
-use Prim.Native.Nat.{◌-◌}
 use lib.ListN.{length}
 use Rattle.scan.specs.Zeros.{Back}
 use Rattle.reach.proofs.searched.Given as goal
 
-abbrev pub invariant-loop-n : goal.invariant-loop-n
-invariant-loop-n l = Back l.s l.n (length l.s)
-
-abbrev pub decreases-loop-n : goal.decreases-loop-n
-decreases-loop-n l = l.n
+-- from `k`, which has not been looked at, to the end there are zeros
+abbrev pub invariant-loop-k : goal.invariant-loop-k
+invariant-loop-k l = Back l.s l.k (length l.s)

@@ -1,4 +1,3 @@
-use Prim.Native.Nat.{◌+◌, ◌-◌}
 use mathlib.Core.Path.{ap, ◌∙◌}
 use mathlib.Core.Bool.{Bool, ◌&&◌}
 use lib.Dec.{eqb}
@@ -7,5 +6,5 @@ use Rattle.scan.proofs.Blanks.{blank-more}
 use native.Mathlib.Omega.{arith}
 use Rattle.scan.proofs.all_zero.Goals as goal
 
-pub loop-k-preserved : goal.loop-k-preserved
-loop-k-preserved c = (omega arith, ap (λ (t : Bool). t && eqb (get_or c.args.s.now (c.args.i + c.loop-k.k) 0) 0) c.loop-k.invariant.1 ∙ blank-more c.args.s.now c.args.i c.loop-k.k (omega arith))
+pub loop-b-preserved : goal.loop-b-preserved
+loop-b-preserved c = ap (λ (t : Bool). t && eqb (get_or c.args.s.now c.loop-b.b-index 0) 0) c.loop-b.invariant ∙ blank-more c.args.s.now c.loop-b.b-index (omega arith)

@@ -1,4 +1,4 @@
-use Rattle.std.proofs.Common.{ℕ, List, length, ◌+◌, ◌≡◌, take, set, get_or, ap, sym, ◌∙◌, arith}
+use Rattle.std.proofs.Common.{ℕ, List, length, ◌+◌, ◌≡◌, take, set, get_or, ap, refl, sym, ◌∙◌, arith}
 use Rattle.std.proofs.Math.Seq.{take-length}
 use Rattle.slices.specs.Bytes.{splice}
 use Rattle.slices.proofs.Splice.{splice-none, splice-more}
@@ -25,5 +25,5 @@ returns c =
     let e : c.loop-i.i ≡ length c.args.src.now = omega arith in
     record {
       bytes = c.loop-i.invariant.1 ∙ ap (splice _ _) (ap (λ (n : ℕ). take n c.args.src.now) e ∙ take-length _);
-      place = ap (λ (n : ℕ). c.args.at + n) e;
+      place = refl;
     }

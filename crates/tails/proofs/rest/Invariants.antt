@@ -1,6 +1,6 @@
 use mathlib.Core.Path.{◌≡◌}
 use mathlib.Core.Bool.{◌&&◌}
-use Prim.Native.Nat.{◌+◌, ◌-◌, ◌≤◌}
+use Prim.Native.Nat.{◌+◌, ◌≤◌}
 use lib.ListN.{drop}
 use Rattle.utf8.specs.Utf8.{fits}
 use Rattle.utf8.specs.Rest.{rest}
@@ -10,6 +10,3 @@ use Rattle.tails.proofs.rest.Given as goal
 -- What is left to test decides, together with `ok`, as the whole row did.
 abbrev pub invariant-loop-k : goal.invariant-loop-k
 invariant-loop-k l = (l.k ≤ l.n) × (l.ok && left l.s l.i l.n l.k ≡ fits (drop (l.i + 1) l.s) (rest l.n l.lo l.hi))
-
-abbrev pub decreases-loop-k : goal.decreases-loop-k
-decreases-loop-k l = l.n - l.k

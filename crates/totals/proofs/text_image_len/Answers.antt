@@ -5,4 +5,4 @@ use Rattle.layout.proofs.Sizes.{image-sat}
 use Rattle.totals.proofs.text_image_len.Goals as goal
 
 pub returns : goal.returns
-returns c = c.record_image_len.ensures ∙ ap (λ (n : ℕ). sat (image_len 1 n)) c.sat_add.ensures ∙ image-sat 1 (c.args.text_len + 3)
+returns c = c.record_image_len.ensures ∙ ap (λ (n : ℕ). sat (image_len 1 n)) c.saturating_add.ensures ∙ image-sat 1 (c.args.text_len + 3)

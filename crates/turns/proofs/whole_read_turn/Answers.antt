@@ -1,8 +1,10 @@
+use mathlib.Core.Path.{sym, ◌∙◌}
 use Rattle.protocol.specs.Mark.{found}
+use Rattle.machine.proofs.Acks.{was-acked}
 use lib.Seq.{take_all}
 use native.Mathlib.Omega.{arith}
 use Rattle.turns.proofs.whole_read_turn.Goals as goal
 
-pub returns-then-ack : goal.returns-then-ack
+pub returns-in-Ok : goal.returns-in-Ok
 unfolding found
-returns-then-ack c = rw (c.if-ack.true, take_all 8192 c.args.out.now (omega arith), ← c.high_water.ensures)
+returns-in-Ok c = rw (was-acked _ (sym c.in-Ok.is ∙ c.acked.ensures), take_all 8192 c.args.out.now (omega arith), ← c.high_water.ensures)

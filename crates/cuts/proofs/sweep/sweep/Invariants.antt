@@ -1,8 +1,0 @@
-use Rattle.std.proofs.Common.{length, ◌≡◌}
-use Rattle.cuts.proofs.sweep.sweep.Given as goal
-
-abbrev pub invariant-loop-left : goal.invariant-loop-left
-invariant-loop-left g l = length l.out ≡ length l.initial.out
-
-abbrev pub decreases-loop-left : goal.decreases-loop-left
-decreases-loop-left g l = l.left
