@@ -9,7 +9,6 @@ pub fn is_the_part(id: &[u8]) -> bool
     requires { 12 ≤ length id.now }
     ensures { result ≡ is_the_part (take 12 id.now) }
 {
-    let low = usize::from(id[0]);
-    let high = usize::from(id[1]);
-    (id[11] == 0xE0) & ((low + 256 * high + 1) * 4 == 8192)
+    let last = usize::from(u16::from_le_bytes([id[0], id[1]]));
+    (id[11] == 0xE0) & ((last + 1) * 4 == 8192)
 }

@@ -9,6 +9,7 @@ use protocol::answer::Progress;
 use setup::setup::{Job, Setup};
 use storing::Store;
 
+// A match of its own, as in `turns`: what follows is another call in each machine.
 pub fn opened(first: bool, o: Progress<Open>) -> Progress<Setup>
     ensures { result ≡ setup_opened first o }
 {
@@ -35,6 +36,7 @@ fn next_job(j: Job) -> Progress<Setup>
     }
 }
 
+// A match of its own, as in `turns`: what follows is another call in each machine.
 pub fn stored(j: Job, s: Progress<Store>) -> Progress<Setup>
     ensures { result ≡ setup_stored j s }
 {

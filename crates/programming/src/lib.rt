@@ -60,6 +60,7 @@ fn row_step(p: Piece, ack: bool) -> Progress<Write>
     Ok(Some(Write::Wait(p, Wait::new())))
 }
 
+// A match of its own, as in `turns`: what follows is another call in each machine.
 fn waited_step(p: Piece, w: Progress<Wait>, len: usize) -> Progress<Write>
     requires { (p.start + p.done < 70000) × (p.done ≤ len) × (len ≤ 8192) }
     ensures { result ≡ piece_waited p w len }

@@ -19,6 +19,7 @@ fn row_step(p: Chunk, r: Rows, ack: bool) -> Progress<Scrub>
     Ok(Some(Scrub::Wait(p, r, Wait::new())))
 }
 
+// A match of its own, as in `turns`: what follows is another call in each machine.
 fn waited_step(p: Chunk, r: Rows, w: Progress<Wait>) -> Progress<Scrub>
     requires { r.row < 69000 }
     ensures { result ≡ waited_step p r w }
