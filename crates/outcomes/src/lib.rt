@@ -6,7 +6,7 @@ ghost use Rattle.protocol.specs.Answer.{answer_number, answer_value};
 
 use protocol::answer::{Answer, TagError};
 
-// The number of an answer: 0, or the refusal's.
+// The number of an answer: 0, or the refusal's. By itself: `answer_number` is what C is promised.
 pub fn number(a: Result<Answer, TagError>) -> u8
     ensures { result ≡ answer_number a }
 {

@@ -39,7 +39,7 @@ fn part_at(image: &[u8], at: usize, len: usize) -> Option<Span>
     Some(Span { at, len })
 }
 
-// A record's type name.
+// A record's type name. Type name, id and payload are a function each, because C calls each by its name.
 pub fn kind(image: &[u8], places: &[usize; 6], part: &mut [usize; 2]) -> u32
     ensures { (result ≡ part_number (kind_part image.now (record_of places.now))) × (part.new ≡ part_numbers (kind_part image.now (record_of places.now))) }
 {

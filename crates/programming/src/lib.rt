@@ -20,7 +20,7 @@ fn piece_len(p: Piece, len: usize) -> usize
     row_len(p.start + p.done, len - p.done)
 }
 
-// A write of `len` bytes at `start`, from its first row.
+// A write of `len` bytes at `start`, from its first row. That they fit the part is asked here and below: `ranged::write` has tested it.
 pub fn write_new(start: usize, len: usize) -> Progress<Write>
     requires { len ≤ 8192 }
     ensures { result ≡ write_new start len }

@@ -1,4 +1,4 @@
-// Where the calls begin that make the part ready: its set-up, and the wipe, which may be over at once.
+// Where the calls begin that make the part ready: its set-up, and the wipe, which may be over at once. A function for each call, as in `bare`.
 #![tactic(auto)]
 
 ghost use Rattle.std.specs.Prelude.{◌≡◌, ◌≤◌};

@@ -1,4 +1,4 @@
-// Where the calls of a visit begin: before the visitor comes, while the part is live, and after it.
+// Where the calls of a visit begin: before the visitor comes, while the part is live, and after it. A function for each call, as in `bare`.
 #![tactic(auto)]
 
 ghost use Rattle.std.specs.Prelude.{◌≡◌};
