@@ -9,11 +9,13 @@ use slices::front;
 const ROOM: usize = 66000;
 
 // Room for the bytes that a case gives or lends.
+pub type Room = [u8; ROOM];
+
 #[derive(Drop)]
 pub struct Rooms {
-    lent: [u8; ROOM],
-    kind: [u8; ROOM],
-    text: [u8; ROOM],
+    lent: Room,
+    kind: Room,
+    text: Room,
 }
 
 impl Rooms {

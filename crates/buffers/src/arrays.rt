@@ -4,19 +4,27 @@ use crate::names::OnArrays;
 use cases::given::{Bytes, generate, given};
 use cases::words::{number, word};
 
+pub type State = [u8; 40];
+
+pub type Transfer = [u8; 24];
+
+pub type Reply = [u8; 72];
+
+pub type Data = [u8; 8300];
+
 // How many bytes of each array are lent, from its front; where there are fewer, all. They stand apart from the arrays: a line sets all five at once.
 #[derive(Clone, Copy)]
-struct Lengths {
-    state: usize,
-    transfer: usize,
-    reply: usize,
-    data: usize,
-    out: usize,
+pub struct Lent {
+    pub state: usize,
+    pub transfer: usize,
+    pub reply: usize,
+    pub data: usize,
+    pub out: usize,
 }
 
-impl Lengths {
-    fn of(line: &[u8]) -> Lengths {
-        Lengths {
+impl Lent {
+    fn of(line: &[u8]) -> Lent {
+        Lent {
             state: number(word(line, 1)),
             transfer: number(word(line, 2)),
             reply: number(word(line, 3)),
@@ -28,17 +36,17 @@ impl Lengths {
 
 #[derive(Drop)]
 pub struct Arrays {
-    pub state: [u8; 40],
-    pub transfer: [u8; 24],
-    pub reply: [u8; 72],
-    data: [u8; 8300],
-    out: [u8; 8300],
-    lengths: Lengths,
+    pub state: State,
+    pub transfer: Transfer,
+    pub reply: Reply,
+    data: Data,
+    out: Data,
+    lengths: Lent,
 }
 
 // The parts that are lent to an export.
 #[derive(Drop)]
-pub struct Lent<'a> {
+pub struct Parts<'a> {
     pub state: &'a mut [u8],
     pub transfer: &'a mut [u8],
     pub reply: &'a mut [u8],
@@ -55,7 +63,7 @@ impl Arrays {
             reply: [0; 72],
             data: [0; 8300],
             out: [0; 8300],
-            lengths: Lengths {
+            lengths: Lent {
                 state: 20,
                 transfer: 24,
                 reply: 72,
@@ -83,11 +91,11 @@ impl Arrays {
             OnArrays::Data => _ = given(word(line, 1), &mut self.data),
             OnArrays::Out => _ = given(word(line, 1), &mut self.out),
             OnArrays::Fill => self.fill(),
-            OnArrays::Lend => self.lengths = Lengths::of(line),
+            OnArrays::Lend => self.lengths = Lent::of(line),
         }
     }
 
-    pub fn lent(&mut self) -> Lent<'_> {
+    pub fn lent(&mut self) -> Parts<'_> {
         let Arrays {
             state,
             transfer,
@@ -96,7 +104,7 @@ impl Arrays {
             out,
             lengths,
         } = self;
-        Lent {
+        Parts {
             state: front_mut(state, lengths.state),
             transfer: front_mut(transfer, lengths.transfer),
             reply: front_mut(reply, lengths.reply),

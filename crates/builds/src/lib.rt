@@ -22,7 +22,7 @@ pub enum Builder {
 
 // A refusal's number and values.
 fn refused(line: &[u8], said: &mut Said, why: Refusal) {
-    said.head(line, u32::from(why));
+    said.head(line, u32::from(why) as usize);
     match why {
         Refusal::TooLong { needed, room } => {
             said.number(needed);
@@ -60,6 +60,7 @@ impl Builder {
         }
     }
 
+    // A word is looked for by the calls that take it alone: one of bytes is long.
     fn build(
         self,
         line: &[u8],
@@ -68,22 +69,25 @@ impl Builder {
         text: &mut [u8],
     ) -> Result<usize, Refusal> {
         let area = number(word(line, 2));
-        let fourth = word(line, 3);
-        let fifth = word(line, 4);
         match self {
-            Builder::Begin => begins::begin(lent, area, number(fourth), prefix(fifth)),
-            Builder::BeginText => begins::begin_text(lent, area, number(fourth)),
+            Builder::Begin => {
+                begins::begin(lent, area, number(word(line, 3)), prefix(word(line, 4)))
+            }
+            Builder::BeginText => begins::begin_text(lent, area, number(word(line, 3))),
             Builder::BeginMime => {
-                opens::begin_mime(lent, area, bytes(fourth, kind), number(fifth))
+                let kind = bytes(word(line, 3), kind);
+                opens::begin_mime(lent, area, kind, number(word(line, 4)))
             }
             // Here the number is the place where the payload ends.
             Builder::Finish => closes::finish(lent, area),
             Builder::UriImage => {
-                addresses::uri_image(lent, area, bytes(fifth, text), prefix(fourth))
+                let text = bytes(word(line, 4), text);
+                addresses::uri_image(lent, area, text, prefix(word(line, 3)))
             }
-            Builder::TextImage => image::text_image(lent, area, bytes(fourth, text)),
+            Builder::TextImage => image::text_image(lent, area, bytes(word(line, 3), text)),
             Builder::MimeImage => {
-                mime::mime_image(lent, area, bytes(fourth, kind), bytes(fifth, text))
+                let kind = bytes(word(line, 3), kind);
+                mime::mime_image(lent, area, kind, bytes(word(line, 4), text))
             }
             Builder::EmptyImage => empty::empty_image(lent, area),
         }

@@ -24,19 +24,24 @@ fn begin(line: &[u8], said: &mut Said) {
     said.head(line, 0);
 }
 
+// The number that a word of the line is, the first at 0.
+fn nth(line: &[u8], place: usize) -> usize {
+    number(word(line, place))
+}
+
 fn length(line: &[u8], said: &mut Said, n: usize) {
     begin(line, said);
     said.number(n);
 }
 
 fn capability_container(line: &[u8], said: &mut Said) {
-    match container::capability_container(number(word(line, 1))) {
+    match container::capability_container(nth(line, 1)) {
         Ok(bytes) => {
             begin(line, said);
             said.bytes(&bytes);
         }
         Err(why) => {
-            said.head(line, u32::from(why));
+            said.head(line, u32::from(why) as usize);
             said.bytes(&[0; 8]);
         }
     }
@@ -56,7 +61,7 @@ fn is_utf8(line: &[u8], said: &mut Said, lent: &mut [u8]) {
 }
 
 fn uri_prefix(line: &[u8], said: &mut Said) {
-    let found = uri::uri_prefix((number(word(line, 1)) % 256) as u8);
+    let found = uri::uri_prefix((nth(line, 1) % 256) as u8);
     begin(line, said);
     said.number(usize::from(found.is_some()));
     said.bytes(found.unwrap_or(&[]));
@@ -78,16 +83,20 @@ impl Call {
         }
     }
 
-    // Answers the case; `lent` is room for the bytes that it gives.
+    // Answers the case; `lent` is room for the bytes that it gives. A number is read by the calls that take one alone, as a word of bytes is long.
     pub fn answer(self, line: &[u8], said: &mut Said, lent: &mut [u8]) {
-        let n = number(word(line, 1));
-        let k = number(word(line, 2));
         match self {
-            Call::ImageLenFor => length(line, said, lengths::image_len_for(n, k)),
-            Call::MimeImageLen => length(line, said, totals::mime_image_len(n, k)),
-            Call::RecordImageLen => length(line, said, totals::record_image_len(n)),
-            Call::ImageLen => length(line, said, totals::image_len(n)),
-            Call::TextImageLen => length(line, said, totals::text_image_len(n)),
+            Call::ImageLenFor => {
+                let n = lengths::image_len_for(nth(line, 1), nth(line, 2));
+                length(line, said, n)
+            }
+            Call::MimeImageLen => {
+                let n = totals::mime_image_len(nth(line, 1), nth(line, 2));
+                length(line, said, n)
+            }
+            Call::RecordImageLen => length(line, said, totals::record_image_len(nth(line, 1))),
+            Call::ImageLen => length(line, said, totals::image_len(nth(line, 1))),
+            Call::TextImageLen => length(line, said, totals::text_image_len(nth(line, 1))),
             Call::CapabilityContainer => capability_container(line, said),
             Call::SetReadOnly => set_read_only(line, said, lent),
             Call::IsUtf8 => is_utf8(line, said, lent),

@@ -51,7 +51,7 @@ fn chosen<O: Write, E: Write>(out: &mut O, err: &mut E, how: &[u8], seed: u64) -
     match how {
         b"full" => run(out, err, FULL, seed),
         b"short" => run(out, err, SHORT, seed),
-        _ => complain(err, "the first word is full or short, not", how),
+        _ => complain(err, b"the first word is full or short, not", how),
     }
 }
 
@@ -68,5 +68,5 @@ fn main(rt: HostRuntime) -> Result<()> {
     if is_number(&word[..k]) {
         return chosen(&mut out, &mut err, &how[..n], number(&word[..k]) as u64);
     }
-    complain(&mut err, "the seed is a decimal number, not", &word[..k])
+    complain(&mut err, b"the seed is a decimal number, not", &word[..k])
 }

@@ -35,9 +35,9 @@ impl Said {
     }
 
     // How an answer begins: the call's name, the first word of its line, and the refusal's number, 0 for none.
-    pub fn head(&mut self, line: &[u8], refusal: u32) {
+    pub fn head(&mut self, line: &[u8], refusal: usize) {
         self.text(word(line, 0));
-        self.number(refusal as usize);
+        self.number(refusal);
     }
 
     pub fn number(&mut self, n: usize) {

@@ -7,7 +7,7 @@ use std::io::{Read, Result};
 const ROOM: usize = 65536;
 
 // The input that is there and has not been given out: the bytes from `from` to `have`, since there is no heap for a Vec.
-#[derive(Drop)]
+#[derive(Clone, Copy)]
 pub struct Feed {
     bytes: [u8; ROOM],
     from: usize,

@@ -57,7 +57,7 @@ fn walk(said: &mut Said, image: &[u8], from: Cursor) {
 
 pub fn read(line: &[u8], said: &mut Said, image: &[u8]) {
     let message = blocks::read(image);
-    said.head(line, u32::from(blocks::number(message)));
+    said.head(line, usize::from(blocks::number(message)));
     if message.is_ok() {
         walk(said, image, walk::start(message));
     }

@@ -5,8 +5,10 @@ use stand::plan::Plan;
 use stand::tally::Tally;
 use std::io::{Result, Write};
 
-pub fn complain<W: Write>(to: &mut W, why: &str, word: &[u8]) -> Result<()> {
-    write!(to, "cuts: {why} '")?;
+pub fn complain<W: Write>(to: &mut W, why: &[u8], word: &[u8]) -> Result<()> {
+    to.write_all(b"cuts: ")?;
+    to.write_all(why)?;
+    to.write_all(b" '")?;
     to.write_all(word)?;
     writeln!(to, "'; usage: cuts full|short [SEED]")
 }

@@ -4,21 +4,29 @@ use crate::chance;
 use crate::step::Step;
 use part::registers::{Cycle, Registers};
 
+pub type State = [u8; 20];
+
+pub type Transfer = [u8; 19];
+
+pub type Reply = [u8; 64];
+
 pub type Memory = [u8; 8192];
+
+pub type Identity = [u8; 12];
 
 // The part's identification block and its memory.
 #[derive(Clone, Copy)]
 pub struct Tile {
-    pub identity: [u8; 12],
+    pub identity: Identity,
     pub memory: Memory,
 }
 
 // The buffers that a host lends to every call of a session.
 #[derive(Clone, Copy)]
 pub struct Session {
-    pub state: [u8; 20],
-    pub transfer: [u8; 19],
-    pub reply: [u8; 64],
+    pub state: State,
+    pub transfer: Transfer,
+    pub reply: Reply,
 }
 
 impl Session {
