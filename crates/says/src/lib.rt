@@ -12,6 +12,7 @@ ghost use Rattle.says.specs.Says.{link_number, link_numbers, in_row, row_len};
 use links::Link;
 use places::told;
 use plain::record_of;
+use slices::copy_to;
 
 // The text of a text record.
 pub fn text(image: &[u8], places: &[usize; 6], part: &mut [usize; 2]) -> u32
@@ -56,7 +57,7 @@ pub fn uri_prefix(code: u8, prefix: &mut [u8; 26], len: &mut usize) -> u32
         *len = 0;
         return 0;
     };
-    prefix[..text.len()].copy_from_slice(text);
+    copy_to(prefix, 0, text);
     *len = text.len();
     1
 }
