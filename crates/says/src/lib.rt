@@ -12,7 +12,6 @@ ghost use Rattle.says.specs.Says.{link_number, link_numbers, in_row, row_len};
 use links::Link;
 use places::told;
 use plain::record_of;
-use slices::copy_to;
 
 // The text of a text record.
 pub fn text(image: &[u8], places: &[usize; 6], part: &mut [usize; 2]) -> u32
@@ -52,12 +51,13 @@ pub fn uri_prefix(code: u8, prefix: &mut [u8; 26], len: &mut usize) -> u32
     ensures prefix_after { prefix.new ≡ in_row (prefix_answer code) }
     ensures len_after { len.new ≡ row_len (prefix_answer code) }
 {
-    *prefix = [0; 26];
-    let Some(text) = uri::uri_prefix(code) else {
+    let Some(row) = uri::uri_row(code) else {
+        *prefix = [0; 26];
         *len = 0;
         return 0;
     };
-    copy_to(prefix, 0, text);
-    *len = text.len();
+    let bytes = row.1;
+    *prefix = bytes;
+    *len = usize::from(row.0);
     1
 }

@@ -4,11 +4,13 @@
 --
 --   ascii t           == the bytes of a text of ASCII characters
 --   prefixes          == the 36 prefixes, from code 0 ("no prefix") on
+--   entry p           == a prefix as a row: its length, and its bytes with zeros after them up to 26, which the longest has
 --   prefix_answer code == what looking a code up answers: its prefix, where it is one of the 36
-use Rattle.std.specs.Prelude.{List, [], ◌∷◌, ℕ, zero, suc, ◌+◌, get_or, ltb, Option, Some, None}
+use Rattle.std.specs.Prelude.{List, [], ◌∷◌, ◌++◌, ℕ, zero, suc, ◌+◌, ◌-◌, length, get_or, replicate, ltb, Option, Some, None}
 use Prim.Native.Char.{code}
 use Prim.Native.String.{String, len, char_at}
 use Rattle.slices.specs.Pick.{pick}
+use Rattle.uri.specs.declared.Row.{Row}
 
 -- n characters from place i on, as numbers
 unfoldable codes : ℕ → ℕ → String → List ℕ
@@ -58,6 +60,9 @@ prefixes =
     ascii "urn:epc:" ∷
     ascii "urn:nfc:" ∷
     []
+
+abbrev pub entry : List ℕ → Row
+entry p = record { 0 = length p; 1 = p ++ replicate (26 - length p) 0 }
 
 unfoldable pub prefix_answer : ℕ → Option (List ℕ)
 prefix_answer c = pick (ltb c 36) (Some (get_or prefixes c [])) None

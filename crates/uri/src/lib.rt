@@ -1,53 +1,66 @@
 // The URI prefixes that one byte stands for (NFC Forum URI Record Type Definition).
 #![tactic(auto)]
 
-ghost use Rattle.std.specs.Prelude.{◌≡◌, ◌≤◌, length, IfSome, option_copied};
-ghost use Rattle.uri.specs.Prefixes.{prefix_answer};
+ghost use Rattle.std.specs.Prelude.{◌≡◌, ◌≤◌, length, IfSome, option_copied, option_map};
+ghost use Rattle.uri.specs.Prefixes.{entry, prefix_answer};
 
-// The prefix of a code: the 36 of the document, and none for 36 to 255.
-#[tactic(auto, unfolding(crate::specs::Prefixes::prefix_answer, crate::specs::Prefixes::prefixes, crate::specs::Prefixes::ascii))]
+// A row of the table: how many bytes a prefix has, and these with zeros after them. The longest has 26.
+#[derive(Clone, Copy)]
+pub struct Row(pub u8, pub [u8; 26]);
+
+// The prefixes by their codes.
+const PREFIXES: [Row; 36] = [
+    Row(0, *b"\0\0\0\0\0\0\0\0\0\0\0\0\0\0\0\0\0\0\0\0\0\0\0\0\0\0"),
+    Row(11, *b"http://www.\0\0\0\0\0\0\0\0\0\0\0\0\0\0\0"),
+    Row(12, *b"https://www.\0\0\0\0\0\0\0\0\0\0\0\0\0\0"),
+    Row(7, *b"http://\0\0\0\0\0\0\0\0\0\0\0\0\0\0\0\0\0\0\0"),
+    Row(8, *b"https://\0\0\0\0\0\0\0\0\0\0\0\0\0\0\0\0\0\0"),
+    Row(4, *b"tel:\0\0\0\0\0\0\0\0\0\0\0\0\0\0\0\0\0\0\0\0\0\0"),
+    Row(7, *b"mailto:\0\0\0\0\0\0\0\0\0\0\0\0\0\0\0\0\0\0\0"),
+    Row(26, *b"ftp://anonymous:anonymous@"),
+    Row(10, *b"ftp://ftp.\0\0\0\0\0\0\0\0\0\0\0\0\0\0\0\0"),
+    Row(7, *b"ftps://\0\0\0\0\0\0\0\0\0\0\0\0\0\0\0\0\0\0\0"),
+    Row(7, *b"sftp://\0\0\0\0\0\0\0\0\0\0\0\0\0\0\0\0\0\0\0"),
+    Row(6, *b"smb://\0\0\0\0\0\0\0\0\0\0\0\0\0\0\0\0\0\0\0\0"),
+    Row(6, *b"nfs://\0\0\0\0\0\0\0\0\0\0\0\0\0\0\0\0\0\0\0\0"),
+    Row(6, *b"ftp://\0\0\0\0\0\0\0\0\0\0\0\0\0\0\0\0\0\0\0\0"),
+    Row(6, *b"dav://\0\0\0\0\0\0\0\0\0\0\0\0\0\0\0\0\0\0\0\0"),
+    Row(5, *b"news:\0\0\0\0\0\0\0\0\0\0\0\0\0\0\0\0\0\0\0\0\0"),
+    Row(9, *b"telnet://\0\0\0\0\0\0\0\0\0\0\0\0\0\0\0\0\0"),
+    Row(5, *b"imap:\0\0\0\0\0\0\0\0\0\0\0\0\0\0\0\0\0\0\0\0\0"),
+    Row(7, *b"rtsp://\0\0\0\0\0\0\0\0\0\0\0\0\0\0\0\0\0\0\0"),
+    Row(4, *b"urn:\0\0\0\0\0\0\0\0\0\0\0\0\0\0\0\0\0\0\0\0\0\0"),
+    Row(4, *b"pop:\0\0\0\0\0\0\0\0\0\0\0\0\0\0\0\0\0\0\0\0\0\0"),
+    Row(4, *b"sip:\0\0\0\0\0\0\0\0\0\0\0\0\0\0\0\0\0\0\0\0\0\0"),
+    Row(5, *b"sips:\0\0\0\0\0\0\0\0\0\0\0\0\0\0\0\0\0\0\0\0\0"),
+    Row(5, *b"tftp:\0\0\0\0\0\0\0\0\0\0\0\0\0\0\0\0\0\0\0\0\0"),
+    Row(8, *b"btspp://\0\0\0\0\0\0\0\0\0\0\0\0\0\0\0\0\0\0"),
+    Row(10, *b"btl2cap://\0\0\0\0\0\0\0\0\0\0\0\0\0\0\0\0"),
+    Row(9, *b"btgoep://\0\0\0\0\0\0\0\0\0\0\0\0\0\0\0\0\0"),
+    Row(10, *b"tcpobex://\0\0\0\0\0\0\0\0\0\0\0\0\0\0\0\0"),
+    Row(11, *b"irdaobex://\0\0\0\0\0\0\0\0\0\0\0\0\0\0\0"),
+    Row(7, *b"file://\0\0\0\0\0\0\0\0\0\0\0\0\0\0\0\0\0\0\0"),
+    Row(11, *b"urn:epc:id:\0\0\0\0\0\0\0\0\0\0\0\0\0\0\0"),
+    Row(12, *b"urn:epc:tag:\0\0\0\0\0\0\0\0\0\0\0\0\0\0"),
+    Row(12, *b"urn:epc:pat:\0\0\0\0\0\0\0\0\0\0\0\0\0\0"),
+    Row(12, *b"urn:epc:raw:\0\0\0\0\0\0\0\0\0\0\0\0\0\0"),
+    Row(8, *b"urn:epc:\0\0\0\0\0\0\0\0\0\0\0\0\0\0\0\0\0\0"),
+    Row(8, *b"urn:nfc:\0\0\0\0\0\0\0\0\0\0\0\0\0\0\0\0\0\0"),
+];
+
+// The row of a code: the 36 of the document, and none for 36 to 255.
+pub fn uri_row(code: u8) -> Option<&'static Row>
+    ensures value { option_copied result ≡ option_map entry (prefix_answer code) }
+    ensures upper_bound { IfSome result (λ p. p.now.0 ≤ 26) }
+{
+    PREFIXES.get(usize::from(code))
+}
+
+// The prefix of a code, without the zeros of its row.
 pub fn uri_prefix(code: u8) -> Option<&'static [u8]>
     ensures value { option_copied result ≡ prefix_answer code }
     ensures upper_bound { IfSome result (λ p. length p.now ≤ 26) }
 {
-    let prefix: &'static [u8] = match code {
-        0 => b"",
-        1 => b"http://www.",
-        2 => b"https://www.",
-        3 => b"http://",
-        4 => b"https://",
-        5 => b"tel:",
-        6 => b"mailto:",
-        7 => b"ftp://anonymous:anonymous@",
-        8 => b"ftp://ftp.",
-        9 => b"ftps://",
-        10 => b"sftp://",
-        11 => b"smb://",
-        12 => b"nfs://",
-        13 => b"ftp://",
-        14 => b"dav://",
-        15 => b"news:",
-        16 => b"telnet://",
-        17 => b"imap:",
-        18 => b"rtsp://",
-        19 => b"urn:",
-        20 => b"pop:",
-        21 => b"sip:",
-        22 => b"sips:",
-        23 => b"tftp:",
-        24 => b"btspp://",
-        25 => b"btl2cap://",
-        26 => b"btgoep://",
-        27 => b"tcpobex://",
-        28 => b"irdaobex://",
-        29 => b"file://",
-        30 => b"urn:epc:id:",
-        31 => b"urn:epc:tag:",
-        32 => b"urn:epc:pat:",
-        33 => b"urn:epc:raw:",
-        34 => b"urn:epc:",
-        35 => b"urn:nfc:",
-        _ => return None,
-    };
-    Some(prefix)
+    let Row(len, bytes) = uri_row(code)?;
+    Some(&bytes[..usize::from(*len)])
 }
