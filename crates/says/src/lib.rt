@@ -46,16 +46,18 @@ pub fn uri(image: &[u8], places: &[usize; 6], values: &mut [usize; 3]) -> u32
 }
 
 // The prefix of a code, with zeros after it, and its length: 1 for the 36 of the table, else 0, zeros and 0.
+#[tactic(auto, unfolding(uri::specs::Prefixes::prefix_answer))]
 pub fn uri_prefix(code: u8, prefix: &mut [u8; 26], len: &mut usize) -> u32
     ensures value { result ≡ yes (is_some (prefix_answer code)) }
     ensures prefix_after { prefix.new ≡ in_row (prefix_answer code) }
     ensures len_after { len.new ≡ row_len (prefix_answer code) }
 {
-    let Some(row) = uri::uri_row(code) else {
+    if code >= 36 {
         *prefix = [0; 26];
         *len = 0;
         return 0;
-    };
+    }
+    let row = uri::uri_row(code);
     let bytes = row.1;
     *prefix = bytes;
     *len = usize::from(row.0);

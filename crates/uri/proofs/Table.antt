@@ -1,20 +1,17 @@
 -- The code's table is the document's: what stands there at a code is the code's prefix.
 --
 --   short ps   == none of the texts has over 26 bytes
-use mathlib.Core.Path.{◌≡◌, ap, sym, ◌∙◌}
+use mathlib.Core.Path.{◌≡◌, refl, ap, sym, ◌∙◌}
 use mathlib.Core.List.{List, [], ◌∷◌, map}
-use mathlib.Core.Bool.{Bool, true, false, ◌&&◌}
-use Prim.Native.Nat.{ℕ, zero, suc, ◌≤◌}
+use mathlib.Core.Bool.{Bool, true, ◌&&◌}
+use Prim.Native.Nat.{ℕ, zero, suc, ◌<◌, ◌≤◌}
 use native.Mathlib.Omega.{arith}
-use borrow.Author.Tests.{leb-true, lt-ltb, le-ltb}
-use lib.Dec.{ltb, leb}
-use lib.ListN.{length, length-map, get_or, get_or-map}
-use Rattle.std.specs.Slice.{IsItemAt}
-use Rattle.std.proofs.Common.{Bor, Option, Some, None, option_copied, option_map, IfSome}
-use Rattle.slices.specs.Pick.{pick}
+use borrow.Author.Tests.{leb-true}
+use lib.Dec.{leb}
+use lib.ListN.{length, length-map, get_or, get_or-map, get_or-eq_default}
 use Rattle.slices.proofs.Truths.{and_left, and_right}
 use Rattle.uri.specs.declared.Row.{Row}
-use Rattle.uri.specs.Prefixes.{prefixes, entry, prefix_answer}
+use Rattle.uri.specs.Prefixes.{prefixes, entry}
 
 abbrev pub short : List (List ℕ) → Bool
 short [] = true
@@ -25,31 +22,22 @@ short_at [] n e = omega arith
 short_at (p ∷ ps) zero e = leb-true _ _ (and_left _ _ e)
 short_at (p ∷ ps) (suc n) e = short_at ps n (and_right _ _ e)
 
-abbrev answer : Bool → ℕ → Option (List ℕ)
-answer t code = pick t (Some (get_or prefixes code [])) None
+-- an element, whatever is taken where there is none
+there : (t : List Row) (k : ℕ) (d e : Row) → k < length t → get_or t k d ≡ get_or t k e
+there [] k d e l = absurd (omega arith)
+there (x ∷ t) zero d e l = refl
+there (x ∷ t) (suc k) d e l = there t k d e (omega arith)
 
--- what `get` lends of the table is the entry of what looking the code up answers
-pub known : (table : List Row) (at code : ℕ) (r : Option (Bor Row))
-    → IsItemAt table at r → at ≡ code → table ≡ map entry prefixes → length prefixes ≡ 36 → option_copied r ≡ option_map entry (prefix_answer code)
-unfolding prefix_answer
-known table at code None got n same k =
-    let m : length (map entry prefixes) ≡ length table = ap length (sym same) in
-    ap (λ t. option_map entry (answer t code)) (sym (le-ltb code 36 (omega (arith, k, m, length-map prefixes entry, got.3))))
-known table at code (Some x) got n same k =
-    let m : length (map entry prefixes) ≡ length table = ap length (sym same) in
-    ap Some (got.3.1 (entry []) ∙ ap (λ t. get_or t at (entry [])) same ∙ get_or-map entry prefixes at [] ∙ ap (λ c. entry (get_or prefixes c [])) n)
-    ∙ ap (λ t. option_map entry (answer t code)) (sym (lt-ltb code 36 (omega (arith, k, m, length-map prefixes entry, got.3.0))))
+-- what the table of the entries has at a code below 36
+pub known : (at code : ℕ) (d : Row) → at < 36 → at ≡ code → length prefixes ≡ 36 → get_or (map entry prefixes) at d ≡ entry (get_or prefixes code [])
+known at code d l n k =
+    there (map entry prefixes) at d (entry []) (omega (arith, l, k, length-map prefixes entry))
+    ∙ get_or-map entry prefixes at [] ∙ ap (λ c. entry (get_or prefixes c [])) n
 
--- and has at most 26 bytes
-pub most : (r : Option (Bor Row)) (code : ℕ) → option_copied r ≡ option_map entry (prefix_answer code) → short prefixes ≡ true → IfSome r (λ p. p.now.0 ≤ 26)
-unfolding prefix_answer
-most None code e s = _
-most (Some p) code e s = let l : p.now.0 ≡ size (option_map entry (prefix_answer code)) = ap size e in omega (arith, l, go (ltb code 36))
-  where
-    size : Option Row → ℕ
-    size (Some p) = p.0
-    size None = 0
+-- the empty row stands for any other
+pub unknown : (code : ℕ) → 36 ≤ code → length prefixes ≡ 36 → entry [] ≡ entry (get_or prefixes code [])
+unknown code h k = ap entry (sym (get_or-eq_default prefixes [] (omega (arith, h, k))))
 
-    go : (t : Bool) → size (option_map entry (answer t code)) ≤ 26
-    go true = short_at prefixes code s
-    go false = omega arith
+-- and none is longer than 26 bytes
+pub most : (r : Row) (code : ℕ) → r ≡ entry (get_or prefixes code []) → short prefixes ≡ true → r.0 ≤ 26
+most r code e s = let l : r.0 ≡ length (get_or prefixes code []) = ap (λ r. r.0) e in omega (arith, l, short_at prefixes code s)

@@ -1,8 +1,8 @@
 // The URI prefixes that one byte stands for (NFC Forum URI Record Type Definition).
 #![tactic(auto)]
 
-ghost use Rattle.std.specs.Prelude.{◌≡◌, ◌≤◌, length, IfSome, option_copied, option_map};
-ghost use Rattle.uri.specs.Prefixes.{entry, prefix_answer};
+ghost use Rattle.std.specs.Prelude.{◌≡◌, ◌≤◌, [], length, get_or, IfSome, option_copied};
+ghost use Rattle.uri.specs.Prefixes.{entry, prefixes, prefix_answer};
 
 // A row of the table: how many bytes a prefix has, and these with zeros after them. The longest has 26.
 #[derive(Clone, Copy)]
@@ -48,19 +48,25 @@ const PREFIXES: [Row; 36] = [
     Row(8, *b"urn:nfc:\0\0\0\0\0\0\0\0\0\0\0\0\0\0\0\0\0\0"),
 ];
 
-// The row of a code: the 36 of the document, and none for 36 to 255.
-pub fn uri_row(code: u8) -> Option<&'static Row>
-    ensures value { option_copied result ≡ option_map entry (prefix_answer code) }
-    ensures upper_bound { IfSome result (λ p. p.now.0 ≤ 26) }
+// The row of a code, and the empty one of code 0 for 36 to 255. (Not an `Option`: for a processor of 32 bits LLVM would not find the
+// reference in it where the kit puts it.)
+pub fn uri_row(code: u8) -> &'static Row
+    ensures value { result.now ≡ entry (get_or prefixes code []) }
+    ensures upper_bound { result.now.0 ≤ 26 }
 {
-    PREFIXES.get(usize::from(code))
+    let at = usize::from(code);
+    if at < 36 { &PREFIXES[at] } else { &PREFIXES[0] }
 }
 
-// The prefix of a code, without the zeros of its row.
+// The prefix of a code, without the zeros of its row: the 36 of the document, and none for 36 to 255.
+#[tactic(auto, unfolding(crate::specs::Prefixes::prefix_answer))]
 pub fn uri_prefix(code: u8) -> Option<&'static [u8]>
     ensures value { option_copied result ≡ prefix_answer code }
     ensures upper_bound { IfSome result (λ p. length p.now ≤ 26) }
 {
-    let Row(len, bytes) = uri_row(code)?;
+    if code >= 36 {
+        return None;
+    }
+    let Row(len, bytes) = uri_row(code);
     Some(&bytes[..usize::from(*len)])
 }
